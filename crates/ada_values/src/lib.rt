@@ -1,0 +1,14 @@
+//! Places, values, scalar types, shapes and the operations of the profile, with the small list types of the product.
+#![tactic(auto)]
+
+mod names;
+mod place;
+mod scalars;
+mod shapes;
+mod values;
+
+pub use names::{ByteList, NameList, NameText, WordList};
+pub use place::Place;
+pub use scalars::{Op, OpFault, Scalar};
+pub use shapes::{ArrayShape, Shape, ShapeIds, ShapeList};
+pub use values::{ArrayValue, FieldList, ItemList, Value};

@@ -1,0 +1,39 @@
+//! Scalar types and the operations on their values.
+
+/// An arithmetic operation of the language (Ada RM 4.5.3 to 4.5.6).
+#[derive(Clone, Copy, Debug, PartialEq, Eq)]
+pub enum Op {
+    Add,
+    Sub,
+    Mul,
+    /// `/`, which truncates toward zero.
+    Quo,
+    Rem,
+    Mod,
+    /// `**`.
+    Pow,
+    /// Unary `-`.
+    Neg,
+    Abs,
+}
+
+/// Why an operation has no result.
+#[derive(Clone, Copy, Debug, PartialEq, Eq)]
+pub enum OpFault {
+    /// The mathematical result lies outside the base range.
+    Overflow,
+    /// The divisor is 0.
+    ZeroDivisor,
+    /// The exponent is below 0.
+    NegativeExponent,
+}
+
+/// A scalar subtype (Ada RM 3.5): its bounds, the base range of its type, and the modulus of a modular type.
+#[derive(Clone, Copy, Debug, PartialEq, Eq)]
+pub struct Scalar {
+    pub lo: i128,
+    pub hi: i128,
+    pub base_lo: i128,
+    pub base_hi: i128,
+    pub modulus: Option<i128>,
+}
