@@ -1,0 +1,7 @@
+pub mod Outcome
+pub mod Store
+pub mod Operators
+pub mod Values
+pub mod Targets
+pub mod Running
+pub mod Plain

@@ -1,0 +1,7 @@
+//! The meaning of typed programs: what a run of a subprogram does, with worked cases as laws.
+#![tactic(auto)]
+
+/// Nothing.
+pub fn placeholder() -> bool {
+    true
+}

@@ -1,0 +1,169 @@
+-- Typed programs as definitions speak of them: expressions, statements, subprograms.
+use Rattle.std.specs.Prelude.{ℕ, Bool, List, Option}
+use Rattle.ada_values.specs.Value.{Val}
+use Rattle.ada_values.specs.declared.place.Place.{Place}
+use Rattle.ada_values.specs.declared.scalars.Op.{Op}
+use Rattle.ada_values.specs.declared.scalars.Scalar.{Scalar}
+use Rattle.ada_values.specs.declared.shapes.Shape.{Shape}
+use Rattle.typed_units.specs.declared.operators.Bounds.{Bounds}
+use Rattle.typed_units.specs.declared.operators.Composite.{Composite}
+use Rattle.typed_units.specs.declared.operators.Connective.{Connective}
+use Rattle.typed_units.specs.declared.operators.Quantifier.{Quantifier}
+use Rattle.typed_units.specs.declared.operators.Relation.{Relation}
+use Rattle.typed_units.specs.declared.statements.Direction.{Direction}
+use Rattle.typed_units.specs.declared.programs.Mode.{Mode}
+
+-- what a subprogram may read or write: objects by their numbers, and the result of a function
+pub data Var : Type 0 where
+  param : ℕ → Var
+  local : ℕ → Var
+  global : ℕ → Var
+  turn : ℕ → Var
+  index : ℕ → Var
+  answer : Var
+
+-- the state that an object is read in: the present one, that on entry to the subprogram, or to the loop of a number
+pub data Moment : Type 0 where
+  present : Moment
+  entry : Moment
+  loop_entry : ℕ → Moment
+
+-- the bounds that a value is checked against, where there is a range check
+abbrev pub Fit : Type 0
+Fit = Option Bounds
+
+-- an operator of one operand; a place is where its check stands
+pub data Op1 : Type 0 where
+  first : Op1
+  last : Op1
+  length_at : Place → Scalar → Op1
+  succ_at : Place → Scalar → Op1
+  pred_at : Place → Scalar → Op1
+  same : Op1
+  negation : Op1
+  unary : Op → Scalar → Place → Op1
+  convert : Fit → Op1
+  component : ℕ → Op1
+
+-- an operator of two operands; `item` tells whether there is an index check
+pub data Op2 : Type 0 where
+  binary : Op → Scalar → Place → Op2
+  compare : Relation → Op2
+  item : Bool → Op2
+
+-- An expression is a node with the place of its first token.
+mutual
+  pub data Ex : Type 0 where
+    at : Place → Nd → Ex
+
+  pub data Nd : Type 0 where
+    static : Val → Nd
+    read : Moment → Var → Nd
+    op1 : Op1 → Ex → Nd
+    op2 : Op2 → Ex → Ex → Nd
+    connect : Connective → Ex → Ex → Nd
+    -- whether a number lies, or doesn't lie, within two bounds
+    member : Bool → Ex → Ex → Ex → Nd
+    call : ℕ → Exs → Nd
+    aggregate : Composite → Bounds → Assocs → Nd
+    choose : Arms → Nd
+    quantified : Quantifier → ℕ → Ex → Ex → Ex → Nd
+
+  -- expressions whose values are checked and passed
+  pub data Exs : Type 0 where
+    no_exs : Exs
+    fitted : Fit → Ex → Exs → Exs
+
+  -- conditions with what each gives, and what stands after `else`
+  pub data Arms : Type 0 where
+    other : Ex → Arms
+    arm : Ex → Ex → Arms → Arms
+
+  -- associations: the ranges of the components, whether it is `others`, and the value with its check
+  pub data Assocs : Type 0 where
+    no_assocs : Assocs
+    assoc : List Bounds → Bool → Fit → Ex → Assocs → Assocs
+
+-- a step from an object to a part: a component of so many, or an item, with the array's bounds where its subtype fixes
+-- them, whether there is an index check, and the index
+pub data Step : Type 0 where
+  to_component : ℕ → ℕ → Step
+  to_item : Option Bounds → Bool → Ex → Step
+
+pub record Target : Type 0 where
+  pub place : Place
+  pub var : Var
+  pub path : List Step
+
+-- what is passed: the check on the way in, and that on the way back
+pub data Actual : Type 0 where
+  pass_in : Fit → Ex → Actual
+  pass_out : Target → Fit → Actual
+  pass_in_out : Target → Fit → Fit → Actual
+
+pub record Way : Type 0 where
+  pub direction : Direction
+  pub value : Ex
+
+pub data Demand : Type 0 where
+  invariant : Ex → Demand
+  variant : List Way → Demand
+
+pub data Head : Type 0 where
+  forever : Head
+  while : Ex → Head
+  -- whether in reverse, the parameter's number, and the bounds
+  for : Bool → ℕ → Ex → Ex → Head
+
+-- A statement is an action with the place of its first token.
+mutual
+  pub data St : Type 0 where
+    st : Place → Ac → St
+
+  pub data Ac : Type 0 where
+    skip : Ac
+    assign : Target → Fit → Ex → Ac
+    invoke : ℕ → List Actual → Ac
+    branch : Branches → Ac
+    case_of : Ex → Alternatives → Ac
+    -- the loop's number, its head, and its body before, in and after the group of invariants and variant
+    loop : ℕ → Head → Sts → List Demand → Sts → Ac
+    exit : Ac
+    exit_when : Ex → Ac
+    return : Ac
+    give : Fit → Ex → Ac
+    assert : Ex → Ac
+    assume : Ex → Ac
+
+  pub data Sts : Type 0 where
+    done : Sts
+    then : St → Sts → Sts
+
+  pub data Branches : Type 0 where
+    otherwise : Sts → Branches
+    when : Ex → Sts → Branches → Branches
+
+  pub data Alternatives : Type 0 where
+    no_alternatives : Alternatives
+    alternative : List Bounds → Bool → Sts → Alternatives → Alternatives
+
+pub record Formal : Type 0 where
+  pub mode : Mode
+  pub shape : ℕ
+
+-- a subprogram; the numbers are those of shapes
+pub record Routine : Type 0 where
+  pub formals : List Formal
+  pub result : Option ℕ
+  pub pre : Option Ex
+  pub post : Option Ex
+  pub locals : List ℕ
+  pub turns : List ℕ
+  pub indexes : List ℕ
+  pub opening : Sts
+  pub body : Sts
+
+pub record Text : Type 0 where
+  pub shapes : List Shape
+  pub globals : List ℕ
+  pub routines : List Routine
