@@ -1,1 +1,5 @@
 pub mod Value
+pub mod Scalars
+pub mod Shapes
+pub mod Combine
+pub mod Division

@@ -1,0 +1,32 @@
+-- Scalar subtypes. -- Ada RM 3.5
+use Rattle.std.specs.Prelude.{◌≡◌, Bool, ◌&&◌, Option, Some, None, ℤ, pos, negsuc, ◌≤ℤ◌, ◌-ℤ◌}
+use Rattle.std.specs.Int.RustNames.{int_le}
+use Rattle.ada_values.specs.declared.scalars.Scalar.{Scalar}
+use Rattle.ada_values.specs.declared.scalars.Op.{Op}
+use Rattle.ada_values.specs.declared.scalars.Op.TheVariants.{Add, Sub, Mul, Quo, Rem, Mod, Pow, Neg, Abs}
+
+abbrev pub within : ℤ → ℤ → ℤ → Bool
+within lo hi v = int_le lo v && int_le v hi
+
+-- the value belongs to the subtype
+abbrev pub in_scalar : Scalar → ℤ → Bool
+in_scalar s v = within s.lo s.hi v
+
+abbrev pub in_base : Scalar → ℤ → Bool
+in_base s v = within s.base_lo s.base_hi v
+
+-- a modulus N is from 2 to 2 ** 32, and the base range is then 0 .. N - 1
+abbrev pub HasModulus : Option ℤ → ℤ → ℤ → Type 0
+HasModulus None lo hi = Unit {0}
+HasModulus (Some n) lo hi = (pos 2 ≤ℤ n) × (n ≤ℤ pos 4294967296) × (lo ≡ pos 0) × (hi ≡ n -ℤ pos 1)
+
+abbrev pub IsScalar : Scalar → Type 0
+IsScalar s = HasModulus s.modulus s.base_lo s.base_hi
+
+abbrev pub InBase : Scalar → ℤ → Type 0
+InBase s v = (s.base_lo ≤ℤ v) × (v ≤ℤ s.base_hi)
+
+-- an exponent is an Integer, and any other right operand lies in the base range -- Ada RM 4.5.6
+abbrev pub IsRight : Op → Scalar → ℤ → Type 0
+IsRight Pow s b = (negsuc 2147483647 ≤ℤ b) × (b ≤ℤ pos 2147483647)
+IsRight _ s b = InBase s b
