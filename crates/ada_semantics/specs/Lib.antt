@@ -5,3 +5,4 @@ pub mod Values
 pub mod Targets
 pub mod Running
 pub mod Plain
+pub mod Cases

@@ -4,6 +4,7 @@ use Rattle.std.specs.Ordering.{int_eq}
 use Rattle.std.specs.Int.RustNames.{int_lt, int_le}
 use Rattle.ada_values.specs.Value.{Val, number, truth, array, record_of, Vals, no_vals, val, val_at, same_val}
 use Rattle.ada_values.specs.Combine.{combined}
+use Rattle.ada_values.specs.Scalars.{within}
 use Rattle.ada_values.specs.declared.place.Place.{Place}
 use Rattle.ada_values.specs.declared.scalars.OpFault.{OpFault}
 use Rattle.ada_values.specs.declared.scalars.OpFault.TheVariants as fault
@@ -24,9 +25,6 @@ use Rattle.typed_units.specs.declared.checks.SiteKey.{SiteKey}
 use Rattle.typed_units.specs.Syntax.{Fit, Op1, first, last, length_at, succ_at, pred_at, same, negation, unary, convert, component, Op2, binary, compare, item}
 use Rattle.ada_semantics.specs.Outcome.{Res, gives, fails, short, unset, bind, spend, pick, wanted, site, check}
 use Rattle.ada_semantics.specs.Store.{Slot, empty, full, Slots, no_slots, slot, empties, wholes}
-
-abbrev pub within : ℤ → ℤ → ℤ → Bool
-within lo hi x = int_le lo x && int_le x hi
 
 abbrev pub natural_of : ℤ → ℕ
 natural_of (pos n) = n

@@ -1,5 +1,5 @@
 -- Calls, and the plain run of a subprogram.
-use Rattle.std.specs.Prelude.{ℕ, zero, suc, Bool, true, false, Option, Some, None, List, [], ◌∷◌}
+use Rattle.std.specs.Prelude.{ℕ, zero, suc, Bool, true, false, Option, Some, None, List, [], ◌∷◌, map}
 use Rattle.ada_values.specs.Value.{Val}
 use Rattle.typed_units.specs.declared.checks.CheckKind.TheVariants as kind
 use Rattle.typed_units.specs.declared.checks.SiteKey.{SiteKey}
@@ -53,16 +53,69 @@ calls_within (suc depth) p q s n = call_of (calls_within depth p) (routine_at p.
 
 -- ---- the plain run
 
--- the parameters of a run: a value for each but the `out` parameters, in order
+abbrev pub in_mode : Mode → Bool
+in_mode mode.In = true
+in_mode mode.Out = false
+in_mode mode.InOut = true
+
+-- the first of the values that are left, and the others
+abbrev pub first_of : List Val → Option Val
+first_of [] = None
+first_of (v ∷ vs) = Some v
+
+abbrev pub rest_of : List Val → List Val
+rest_of [] = []
+rest_of (v ∷ vs) = vs
+
+-- the parameters at the start of a run, which has a value for each but the `out` parameters, in order
 abbrev pub given_params : List Formal → List Val → List (Option Val)
 given_params [] vs = []
-given_params (p ∷ ps) vs = elim p.mode [ mode.Out ↦ None ∷ given_params ps vs | mode.In ↦ next_param ps vs | mode.InOut ↦ next_param ps vs ]
-  where
-    next_param : List Formal → List Val → List (Option Val)
-    next_param ps [] = None ∷ given_params ps []
-    next_param ps (v ∷ vs) = Some v ∷ given_params ps vs
+given_params (p ∷ ps) vs = pick (in_mode p.mode) (first_of vs) None ∷ given_params ps (pick (in_mode p.mode) (rest_of vs) vs)
 
 abbrev pub started : List (Option Val) → List (Option Val) → Store
 started params globals (param k) = full_if (nth params k)
 started params globals (global k) = full_if (nth globals k)
 started params globals _ = empty
+
+-- what a run leaves: a slot for each parameter and each global, and the result of a function
+pub record End : Type 0 where
+  pub params : List (Option Val)
+  pub globals : List (Option Val)
+  pub returned : Option Val
+
+-- A run comes to its end, fails at a check, spends its budget, or isn't one, because `Pre` is False at its start. The
+-- last comes in no accepted program: it reads what was never set.
+pub data Plain : Type 0 where
+  ends : End → Plain
+  fails : SiteKey → Plain
+  short : Plain
+  not_a_start : Plain
+  reads_unset : Plain
+
+abbrev pub globals_of : List ℕ → ℕ → Store → List (Option Val)
+globals_of [] k s = []
+globals_of (g ∷ gs) k s = whole (s (global k)) ∷ globals_of gs (suc k) s
+
+abbrev pub params_of : List Formal → ℕ → Store → List (Option Val)
+params_of [] k s = []
+params_of (p ∷ ps) k s = whole (s (param k)) ∷ params_of ps (suc k) s
+
+abbrev pub end_of : Text → Routine → Store → End
+end_of p r s = record { params = params_of r.formals 0 s; globals = globals_of p.globals 0 s; returned = whole (s answer) }
+
+abbrev pub plain_of : Text → Routine → Res (Option Store) → Plain
+plain_of p r (res.gives None n) = not_a_start
+plain_of p r (res.gives (Some s) n) = ends (end_of p r s)
+plain_of p r (res.fails c) = fails c
+plain_of p r res.short = short
+plain_of p r res.unset = reads_unset
+
+abbrev pub plain_run : Text → Option Routine → List Val → List Val → ℕ → Plain
+plain_run p None params globals n = reads_unset
+plain_run p (Some r) params globals n =
+    plain_of p r (one_call (calls_within n p) r (started (given_params r.formals params) (map Some globals)) n)
+
+-- The plain run of a subprogram, from values of its `in` and `in out` parameters and of all globals. A call takes a
+-- unit, so with n units no more than n calls lie within one another.
+abbrev pub plain : Text → ℕ → List Val → List Val → ℕ → Plain
+plain p q params globals n = plain_run p (routine_at p.routines q) params globals n

@@ -7,7 +7,8 @@ use Rattle.typed_units.specs.declared.checks.CheckKind.TheVariants as kind
 use Rattle.typed_units.specs.Syntax.{Ex, Var, Step, to_component, to_item, Target}
 use Rattle.ada_semantics.specs.Outcome.{Res, gives, fails, short, unset, bind, pick, wanted, site}
 use Rattle.ada_semantics.specs.Store.{Slot, empty, full, parts, whole, components, component_slot, item_slot, is_array, with_item_value, with_slot, Frame, set}
-use Rattle.ada_semantics.specs.Operators.{within, position}
+use Rattle.ada_semantics.specs.Operators.{position}
+use Rattle.ada_values.specs.Scalars.{within}
 use Rattle.ada_semantics.specs.Values.{Calls, value_of, place_of}
 
 -- a step whose index is known: a component of so many, or the item at a position from 0
