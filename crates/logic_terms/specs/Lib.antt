@@ -1,0 +1,10 @@
+pub mod Node
+pub mod Value
+pub mod Meaning
+pub mod View
+pub mod Binding
+pub mod Sorting
+pub mod Sorts
+pub mod Goal
+pub mod Goals
+pub mod Same
