@@ -68,9 +68,9 @@ goal_at calls w c p =
       problem = record {
         signature = record { symbols = map (kind_met w.symbols) (symbols_of_goal ps); calls = map (call_known calls) (calls_of_goal ps) };
         hypotheses = map (numbered ps) w.hypotheses;
-        conclusion = numbered ps p
+        conclusion = numbered ps p;
       };
-      roles = map (role_met w.symbols) (symbols_of_goal ps)
+      roles = map (role_met w.symbols) (symbols_of_goal ps);
     }
 
 abbrev pub goals_from : List Known → Way → Tree → List SiteGoal

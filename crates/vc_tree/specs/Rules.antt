@@ -1,5 +1,5 @@
 -- The tree of a subprogram, by the rules for what is built so far: scalar inputs, and assertions that compare numbers.
-use Rattle.std.specs.Prelude.{ℕ, zero, suc, ◌+◌, Bool, true, false, Option, Some, None, ◌&&◌, if◌then◌else◌, is_none, List, [], ◌∷◌, ℤ, pos}
+use Rattle.std.specs.Prelude.{ℕ, suc, Bool, true, false, Option, Some, None, ◌&&◌, if◌then◌else◌, is_none, slice_get, List, [], ◌∷◌, ℤ, pos}
 use Rattle.ada_values.specs.Value as ada
 use Rattle.ada_values.specs.declared.scalars.Scalar.{Scalar}
 use Rattle.ada_values.specs.declared.shapes.Shape.{Shape}
@@ -41,13 +41,13 @@ related relation.AtMost a b = at_most a b
 related relation.Greater a b = at_most (plus_one b) a
 related relation.AtLeast a b = at_most b a
 
--- the term of an expression, where each object has one
-abbrev pub term_of : (Var → Node) → Ex → Option Node
+-- the term of an expression, where the objects that are built have one
+abbrev pub term_of : (Var → Option Node) → Ex → Option Node
 term_of t (at p (static (ada.number x))) = Some (node.num x)
-term_of t (at p (read present x)) = Some (t x)
+term_of t (at p (read present x)) = t x
 term_of t _ = None
 
-abbrev pub formula_of : (Var → Node) → Ex → Option Node
+abbrev pub formula_of : (Var → Option Node) → Ex → Option Node
 formula_of t (at p (static (ada.truth b))) = Some (node.flag b)
 formula_of t (at p (op2 (compare r) a b)) = and_then (term_of t a) (λ x. and_then (term_of t b) (λ y. Some (related r x y)))
 formula_of t _ = None
@@ -59,7 +59,7 @@ is_done done = true
 is_done _ = false
 
 -- an assertion is its check, before what follows it
-abbrev pub statements : (Var → Node) → Sts → Option Tree
+abbrev pub statements : (Var → Option Node) → Sts → Option Tree
 statements t done = Some tree.done
 statements t (text.then (st q (assert (at p x))) rest) =
     and_then (formula_of t (at p x)) (λ f. and_then (statements t rest) (λ u. Some (tree.check (site p kind.Assert) f u)))
@@ -71,11 +71,9 @@ statements t _ = None
 abbrev pub bounds_of : Scalar → Node → Node
 bounds_of s a = node.op2 node.conj (at_most (node.num s.lo) a) (at_most a (node.num s.hi))
 
-abbrev pub scalar_of : List Shape → ℕ → Option Scalar
-scalar_of [] k = None
-scalar_of (shape.Number s ∷ ss) zero = Some s
-scalar_of (s ∷ ss) zero = None
-scalar_of (s ∷ ss) (suc k) = scalar_of ss k
+abbrev pub scalar_of : Option Shape → Option Scalar
+scalar_of (Some (shape.Number s)) = Some s
+scalar_of _ = None
 
 abbrev pub is_in : Mode → Bool
 is_in mode.In = true
@@ -85,7 +83,7 @@ is_in _ = false
 abbrev pub input : List Shape → Formal → ℕ → Tree → Option Tree
 input shapes p k rest =
     if is_in p.mode
-    then and_then (scalar_of shapes p.shape) (λ s. Some (tree.any k numbers (any_role.Input k) (tree.assume (bounds_of s (node.sym k)) rest)))
+    then and_then (scalar_of (slice_get shapes p.shape)) (λ s. Some (tree.any k numbers (any_role.Input k) (tree.assume (bounds_of s (node.sym k)) rest)))
     else None
 
 abbrev pub inputs : List Shape → List Formal → ℕ → Tree → Option Tree
@@ -93,9 +91,9 @@ inputs shapes [] k rest = Some rest
 inputs shapes (p ∷ ps) k rest = and_then (inputs shapes ps (suc k) rest) (input shapes p k)
 
 -- the symbol of a parameter; no other object is built yet
-abbrev pub symbol_of : Var → Node
-symbol_of (param k) = node.sym k
-symbol_of _ = node.num (pos 0)
+abbrev pub symbol_of : Var → Option Node
+symbol_of (param k) = Some (node.sym k)
+symbol_of _ = None
 
 -- the inputs, and then the body, of a subprogram without contracts and local objects
 abbrev pub tree_of : Text → Routine → Option Tree

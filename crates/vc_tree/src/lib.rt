@@ -38,3 +38,5 @@ pub struct VcTree {
     pub nodes: NodeList,
     pub root: u32,
 }
+
+pub mod laws;
