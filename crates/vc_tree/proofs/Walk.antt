@@ -55,16 +55,16 @@ abbrev pub Is : Node → List Node → Type 0
 Is p [] = ⊥
 Is p (q ∷ ps) = (q ≡ p) ⊎ Is p ps
 
-last_is : (ps : List Node) (p : Node) → Is p (ps ++ p ∷ [])
+pub last_is : (ps : List Node) (p : Node) → Is p (ps ++ p ∷ [])
 last_is [] p = inl refl
 last_is (q ∷ ps) p = inr (last_is ps p)
 
-in_symbols : (ps : List Node) (p : Node) (k : ℕ) → Is p ps → In k (symbols_in p) → In k (all_symbols ps)
+pub in_symbols : (ps : List Node) (p : Node) (k : ℕ) → Is p ps → In k (symbols_in p) → In k (all_symbols ps)
 in_symbols [] p k e h = absurd e
 in_symbols (q ∷ ps) p k (inl e) h = in_left k (symbols_in q) (all_symbols ps) (rw e h)
 in_symbols (q ∷ ps) p k (inr e) h = in_right k (symbols_in q) (all_symbols ps) (in_symbols ps p k e h)
 
-in_calls : (ps : List Node) (p : Node) (k : ℕ) → Is p ps → In k (calls_in p) → In k (all_calls ps)
+pub in_calls : (ps : List Node) (p : Node) (k : ℕ) → Is p ps → In k (calls_in p) → In k (all_calls ps)
 in_calls [] p k e h = absurd e
 in_calls (q ∷ ps) p k (inl e) h = in_left k (calls_in q) (all_calls ps) (rw e h)
 in_calls (q ∷ ps) p k (inr e) h = in_right k (calls_in q) (all_calls ps) (in_calls ps p k e h)
@@ -85,7 +85,7 @@ all_hold : (w : World) (ps qs : List Node) → ((p : Node) → Is p qs → Is p 
 all_hold w ps [] sub h = tt
 all_hold w ps (q ∷ qs) sub h = (holds-numbered w ps q (sub q (inl refl)) ∙ h.0, all_hold w ps qs (λ p e. sub p (inr e)) h.1)
 
-is_before : (ps : List Node) (q p : Node) → Is p ps → Is p (ps ++ q ∷ [])
+pub is_before : (ps : List Node) (q p : Node) → Is p ps → Is p (ps ++ q ∷ [])
 is_before [] q p e = absurd e
 is_before (r ∷ ps) q p (inl e) = inl e
 is_before (r ∷ ps) q p (inr e) = inr (is_before ps q p e)
