@@ -2,13 +2,15 @@
 #![tactic(auto)]
 
 mod names;
+mod operations;
 mod place;
 mod scalars;
 mod shapes;
 mod values;
 
 pub use names::{ByteList, NameList, NameText, WordList};
+pub use operations::{combine, division_laws};
 pub use place::Place;
-pub use scalars::{Op, OpFault, Scalar};
+pub use scalars::{Op, OpFault, Scalar, in_scalar};
 pub use shapes::{ArrayShape, Shape, ShapeIds, ShapeList};
 pub use values::{ArrayValue, FieldList, ItemList, Value};
