@@ -16,8 +16,9 @@ Turns q r n = ((r ≡ 0) × (q ≡ n)) ⊎ ((r ≡ suc q) × (q < n))
 turns_at : (q n : ℕ) → q < suc n → Turns q (suc q % suc n) n
 turns_at q n h =
     elim (cases_lt q n) [
-      inl less ↦ (let small : suc q < suc n = omega arith in inr (mod-eq_of_lt small, less))
-    | inr more ↦ (let same : q ≡ n = omega arith in inl (ap (λ k. suc k % suc n) same ∙ mod_self (suc n), same)) ]
+      | inl less ↦ (let small : suc q < suc n = omega arith in inr (mod-eq_of_lt small, less))
+      | inr more ↦ (let same : q ≡ n = omega arith in inl (ap (λ k. suc k % suc n) same ∙ mod_self (suc n), same))
+    ]
 
 turns : (x n : ℕ) → Turns (x % suc n) (suc x % suc n) n
 turns x n = rw suc-mod (turns_at (x % suc n) n (mod_below x (suc n) (omega arith)))

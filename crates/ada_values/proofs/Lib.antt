@@ -1,3 +1,4 @@
 pub mod Division
 pub mod Powers
 pub mod Whole
+pub mod Equal

@@ -12,5 +12,5 @@ pub use names::{ByteList, NameList, NameText, WordList};
 pub use operations::{combine, division_laws};
 pub use place::Place;
 pub use scalars::{Op, OpFault, Scalar, in_scalar};
-pub use shapes::{ArrayShape, Shape, ShapeIds, ShapeList};
-pub use values::{ArrayValue, FieldList, ItemList, Value};
+pub use shapes::{ArrayShape, Shape, ShapeIds, ShapeList, in_shape};
+pub use values::{ArrayValue, FieldList, ItemList, Value, same_value};

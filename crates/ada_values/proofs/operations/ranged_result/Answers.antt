@@ -23,5 +23,6 @@ returns-else-lo-v c =
     let whole = rw c.in-Some.is at told in
     let fv = fits_whole _ _ whole in
     elim c.else-lo-v.branch [
-      else-lo-v-via-then-lo-v+else-v-hi w ↦ above_range _ _ _ _ whole (simp to_z-of_z at w.if-v-hi.false)
-    | else-lo-v-via-else-lo-v w ↦ below_range _ _ _ _ whole (simp to_z-of_z at w.if-lo-v.false) ]
+      | else-lo-v-via-then-lo-v+else-v-hi w ↦ above_range _ _ _ _ whole (simp to_z-of_z at w.if-v-hi.false)
+      | else-lo-v-via-else-lo-v w ↦ below_range _ _ _ _ whole (simp to_z-of_z at w.if-lo-v.false)
+    ]
