@@ -1,10 +1,10 @@
 //! Shapes: what values a subtype has.
 
-ghost use Rattle.std.specs.Prelude.{◌≡◌, ◌<◌, length, slice_get, ◌==◌};
+ghost use Rattle.std.specs.Prelude.{◌≡◌, ◌<◌, length, slice_get, ◌==◌, ◌&&◌};
 ghost use Rattle.std.specs.Option.{option_copied};
 ghost use Rattle.ada_values.specs.Scalars.{in_base};
 ghost use Rattle.ada_values.specs.Shapes.{range_length, bounds_fit, fits, all_fit, each_fits, in_shape};
-ghost use Rattle.ada_values.specs.Value.{value, values};
+ghost use Rattle.ada_values.specs.Value.{value, values, length_of};
 
 use crate::scalars::{Scalar, in_scalar};
 use crate::values::{ArrayValue, Value};
@@ -60,11 +60,7 @@ fn fits(shapes: &ShapeList, shape: Option<&Shape>, v: &Value) -> bool
             _ => false,
         },
         Some(Shape::Array(a)) => match v {
-            Value::Arr(array) => {
-                bounds_fit(a, array.first, array.last)
-                    && has_length(array.first, array.last, array.items.len())
-                    && all_fit(shapes, a.item, &array.items)
-            }
+            Value::Arr(array) => fits_array(shapes, a, array.first, array.last, &array.items),
             _ => false,
         },
         Some(Shape::Record(ids)) => match v {
@@ -72,6 +68,19 @@ fn fits(shapes: &ShapeList, shape: Option<&Shape>, v: &Value) -> bool
             _ => false,
         },
     }
+}
+
+#[cycle(fits)]
+fn fits_array(
+    shapes: &ShapeList,
+    shape: &ArrayShape,
+    first: i128,
+    last: i128,
+    items: &Items<Value>,
+) -> bool
+    ensures { result ≡ (bounds_fit shape.now.bounds shape.now.index first last && (length_of (values items.now) == range_length first last) && all_fit shapes.now (slice_get shapes.now shape.now.item) (values items.now)) }
+{
+    has_bounds(shape, first, last, items.len()) && all_fit(shapes, shape.item, items)
 }
 
 #[cycle(fits)]
@@ -101,6 +110,13 @@ fn each_fits(shapes: &ShapeList, ids: &ShapeIds, fields: &Items<Value>) -> bool
         }
     }
     true
+}
+
+// Whether an array with these bounds and that many items may belong to the subtype.
+fn has_bounds(shape: &ArrayShape, first: i128, last: i128, length: usize) -> bool
+    ensures { result ≡ (bounds_fit shape.now.bounds shape.now.index first last && (length == range_length first last)) }
+{
+    bounds_fit(shape, first, last) && has_length(first, last, length)
 }
 
 // Whether an array with these bounds may belong to the subtype.
