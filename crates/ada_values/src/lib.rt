@@ -14,3 +14,6 @@ pub use place::Place;
 pub use scalars::{Op, OpFault, Scalar, in_scalar};
 pub use shapes::{ArrayShape, Shape, ShapeIds, ShapeList, in_shape};
 pub use values::{ArrayValue, FieldList, ItemList, Value, same_value};
+
+#[cfg(test)]
+mod tests;
