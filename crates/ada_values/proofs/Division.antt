@@ -1,5 +1,5 @@
 -- The laws of the integer divisions, and the remainder that the code computes.
-use Rattle.std.proofs.Common.{◌≡◌, ◌≢◌, refl, sym, ◌∙◌, ap, ℕ, zero, suc, ◌+◌, ◌-◌, ◌*◌, ◌%◌, ◌<◌, ◌≤◌, ◌⊎◌, inl, inr, arith, ℤ, pos, negsuc, neg_ℤ, ◌+ℤ◌, ◌-ℤ◌, ◌*ℤ◌, ◌≤ℤ◌, ◌<ℤ◌}
+use Rattle.std.proofs.Common.{◌≡◌, ◌≢◌, refl, sym, ◌∙◌, ap, ℕ, zero, suc, ◌+◌, ◌-◌, ◌*◌, ◌%◌, ◌<◌, ◌⊎◌, inl, inr, arith, ℤ, pos, negsuc, neg_ℤ, ◌+ℤ◌, ◌-ℤ◌, ◌*ℤ◌, ◌≤ℤ◌, ◌<ℤ◌}
 use Rattle.std.proofs.Math.Nat.{mod-eq_of_lt, mod_self, suc-mod}
 use Rattle.std.proofs.lemmas.Nat.{mod_below}
 use Rattle.std.proofs.lemmas.Bool.{cases_lt}
@@ -7,7 +7,7 @@ use Rattle.std.proofs.lemmas.Int.{ints, quot-rem, rem_below, by_lt_z}
 use borrow.Author.Differences.{up, down}
 use Rattle.std.specs.Int.RustNames.{int_div, int_rem, unsigned_abs}
 use Rattle.ada_values.specs.Combine.{floor_mod}
-use Rattle.ada_values.specs.Division.{IsModulo, IsQuotient, ModuloLaw, QuotientLaw}
+use Rattle.ada_values.specs.Division.{ModuloLaw, QuotientLaw}
 
 -- how a remainder q by suc n goes on at the next number, where it is r
 abbrev Turns : ℕ → ℕ → ℕ → Type 0

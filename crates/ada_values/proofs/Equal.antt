@@ -1,6 +1,6 @@
 -- Lists of different lengths are not equal, and do not fit each other.
-use Rattle.std.proofs.Common.{◌≡◌, ◌≢◌, refl, ◌∙◌, ap, Bool, true, false, ◌&&◌, suc, ℕ, List, [], ◌∷◌, length, slice_get}
-use Rattle.ada_values.specs.Value.{value, values, length_of, same_val, same_vals}
+use Rattle.std.proofs.Common.{◌≡◌, ◌≢◌, refl, ap, Bool, true, false, ◌&&◌, suc, ℕ, List, [], ◌∷◌, length, slice_get}
+use Rattle.ada_values.specs.Value.{value, values, same_val, same_vals}
 use Rattle.ada_values.specs.Shapes.{fits, each_fits}
 use Rattle.ada_values.specs.declared.shapes.Shape.{Shape}
 use Rattle.ada_values.specs.declared.values.Value.{Value}
@@ -8,10 +8,6 @@ use Rattle.ada_values.specs.declared.values.Value.{Value}
 and_false : (b : Bool) → (b && false) ≡ false
 and_false true = refl
 and_false false = refl
-
-pub length_values : (xs : List Value) → length_of (values xs) ≡ length xs
-length_values [] = refl
-length_values (x ∷ xs) = ap suc (length_values xs)
 
 pub unlike : (xs ys : List Value) → length xs ≢ length ys → same_vals (values xs) (values ys) ≡ false
 unlike [] [] n = absurd (n refl)

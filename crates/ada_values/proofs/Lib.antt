@@ -2,3 +2,4 @@ pub mod Division
 pub mod Powers
 pub mod Whole
 pub mod Equal
+pub mod Views

@@ -1,5 +1,5 @@
 -- From the mathematical result to the result in the type.
-use Rattle.std.proofs.Common.{◌≡◌, refl, sym, ◌∙◌, ap, Bool, true, false, ◌&&◌, arith, ℤ, pos, negsuc, ◌≤ℤ◌, FitsSigned, Some, Result, Ok, Err}
+use Rattle.std.proofs.Common.{◌≡◌, refl, Bool, true, false, ◌&&◌, arith, ℤ, pos, negsuc, ◌≤ℤ◌, FitsSigned, Some, Result, Ok, Err}
 use Rattle.std.specs.Prelude.{if◌then◌else◌}
 use Rattle.std.specs.Int.RustNames.{int_le}
 use Rattle.std.specs.Int.{w128, int_rem_euclid}

@@ -3,7 +3,7 @@ use Rattle.std.specs.Prelude.{◌≡◌, Bool, ◌&&◌, Option, Some, None, ℤ
 use Rattle.std.specs.Int.RustNames.{int_le}
 use Rattle.ada_values.specs.declared.scalars.Scalar.{Scalar}
 use Rattle.ada_values.specs.declared.scalars.Op.{Op}
-use Rattle.ada_values.specs.declared.scalars.Op.TheVariants.{Add, Sub, Mul, Quo, Rem, Mod, Pow, Neg, Abs}
+use Rattle.ada_values.specs.declared.scalars.Op.TheVariants.{Pow}
 
 abbrev pub within : ℤ → ℤ → ℤ → Bool
 within lo hi v = int_le lo v && int_le v hi

@@ -1,9 +1,9 @@
 -- What the code computes on the way to a result.
-use Rattle.std.specs.Prelude.{◌≡◌, Option, Some, None, Result, Ok, Err, ℤ, pos, ◌≤ℤ◌, FitsSigned}
+use Rattle.std.specs.Prelude.{◌≡◌, Option, Result, Ok, Err, ℤ, pos, ◌≤ℤ◌, FitsSigned}
 use Rattle.std.specs.Int.{w128}
 use Rattle.std.specs.Option.{SomeIff}
 use Rattle.ada_values.specs.declared.scalars.Op.{Op}
-use Rattle.ada_values.specs.declared.scalars.Op.TheVariants.{Add, Sub, Mul, Quo, Rem, Mod, Pow, Neg, Abs}
+use Rattle.ada_values.specs.declared.scalars.Op.TheVariants.{Pow}
 use Rattle.ada_values.specs.declared.scalars.OpFault.{OpFault}
 
 -- the mathematical result where it has 128 bits

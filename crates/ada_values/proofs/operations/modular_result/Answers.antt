@@ -1,4 +1,4 @@
-use Rattle.std.proofs.Common.{◌≡◌, FitsSigned, ℤ, Ok, Some, rules}
+use Rattle.std.proofs.Common.{◌≡◌, FitsSigned, Ok, rules}
 use Rattle.std.specs.Int.{w128, int_rem_euclid}
 use Rattle.std.proofs.lemmas.Int.{to_z-of_z}
 use Rattle.ada_values.specs.Combine.{exact}

@@ -1,4 +1,4 @@
-use Rattle.std.proofs.Common.{arith, ◌≡◌, ◌∙◌, ◌%◌, ◌*◌, ◌^◌, ◌/◌}
+use Rattle.std.proofs.Common.{arith, ◌∙◌, ◌*◌}
 use Rattle.std.proofs.lemmas.Nat.{mod_below}
 use Rattle.ada_values.proofs.Powers.{even_turn, odd_turn}
 use Rattle.ada_values.proofs.operations.power_modulo.Goals as goal

@@ -1,6 +1,4 @@
-use Rattle.std.proofs.Common.{◌≡◌, Bool, true, false, FitsSigned, ℤ, Ok, Some}
-use Rattle.std.specs.Int.{w128}
-use Rattle.std.specs.Int.RustNames.{int_le}
+use Rattle.std.proofs.Common.{Ok}
 use Rattle.std.proofs.lemmas.Int.{to_z-of_z}
 use Rattle.ada_values.specs.Combine.{exact}
 use Rattle.ada_values.specs.Whole.{IsWhole}
