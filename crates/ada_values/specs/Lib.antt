@@ -3,3 +3,4 @@ pub mod Scalars
 pub mod Shapes
 pub mod Combine
 pub mod Division
+pub mod Whole

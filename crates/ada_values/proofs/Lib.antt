@@ -1,0 +1,5 @@
+pub mod Division
+pub mod Powers
+pub mod Whole
+pub mod Equal
+pub mod Views
