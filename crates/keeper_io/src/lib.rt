@@ -9,6 +9,8 @@ mod list_sink;
 mod map_keeper;
 mod out_sink;
 mod sink;
+#[cfg(test)]
+mod tests;
 
 pub use entry::{Entry, EntryList};
 pub use failing_calls::CallList;
