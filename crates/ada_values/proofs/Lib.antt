@@ -3,3 +3,5 @@ pub mod Powers
 pub mod Whole
 pub mod Equal
 pub mod Views
+pub mod Results
+pub mod Parts

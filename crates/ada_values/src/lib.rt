@@ -9,10 +9,10 @@ mod shapes;
 mod values;
 
 pub use names::{ByteList, NameList, NameText, WordList};
-pub use operations::{combine, division_laws};
+pub use operations::{combine, operation_laws};
 pub use place::Place;
 pub use scalars::{Op, OpFault, Scalar, in_scalar};
-pub use shapes::{ArrayShape, Shape, ShapeIds, ShapeList, in_shape};
+pub use shapes::{ArrayShape, Shape, ShapeIds, ShapeList, in_shape, part_laws};
 pub use values::{ArrayValue, FieldList, ItemList, Value, same_value};
 
 #[cfg(test)]

@@ -1,7 +1,7 @@
 //! The operations of scalar types.
 
 ghost use Rattle.std.specs.Prelude.{◌≡◌, ◌≢◌, pos, ◌≤ℤ◌, ◌<◌, ◌≤◌, ◌%◌, ◌^◌, ◌-ℤ◌};
-ghost use Rattle.ada_values.specs.Combine.{floor_mod, exact, ranged, wrapped, combined};
+ghost use Rattle.ada_values.specs.Combine.{floor_mod, exact, ranged, wrapped, combined, ResultLaw};
 ghost use Rattle.ada_values.specs.Division.{ModuloLaw, QuotientLaw};
 ghost use Rattle.ada_values.specs.Scalars.{IsScalar, InBase, IsBetween, IsRight};
 ghost use Rattle.ada_values.specs.Whole.{IsWhole, IsExponent};
@@ -25,10 +25,11 @@ pub fn combine(op: Op, s: &Scalar, a: i128, b: i128) -> Result<i128, OpFault>
     }
 }
 
-/// The laws of `mod`, and of `/` and `rem`, at all whole numbers.
-pub fn division_laws()
+/// The laws of `mod`, and of `/` and `rem`, at all whole numbers, and that a result lies in the base range.
+pub fn operation_laws()
     ensures modulo { ModuloLaw }
     ensures quotient { QuotientLaw }
+    ensures result { ResultLaw }
 {}
 
 // The result in a type without modulus.

@@ -2,6 +2,7 @@
 
 ghost use Rattle.std.specs.Prelude.{◌≡◌, ◌<◌, length, slice_get, ◌==◌, ◌&&◌};
 ghost use Rattle.std.specs.Option.{option_copied};
+ghost use Rattle.ada_values.specs.Parts.{ItemLaw, NewItemLaw, ComponentLaw, NewComponentLaw};
 ghost use Rattle.ada_values.specs.Scalars.{in_base};
 ghost use Rattle.ada_values.specs.Shapes.{range_length, bounds_fit, fits, all_fit, each_fits, in_shape};
 ghost use Rattle.ada_values.specs.Value.{value, values, length_of};
@@ -45,6 +46,14 @@ pub fn in_shape(shapes: &ShapeList, shape: u32, v: &Value) -> bool
     fits(shapes, shapes.get(shape as usize), v)
 }
 
+/// The parts of a value that has a shape have their shapes, and a part may be replaced by another value of its shape.
+pub fn part_laws()
+    ensures item { ItemLaw }
+    ensures new_item { NewItemLaw }
+    ensures component { ComponentLaw }
+    ensures new_component { NewComponentLaw }
+{}
+
 #[cycle(fits)]
 fn fits(shapes: &ShapeList, shape: Option<&Shape>, v: &Value) -> bool
     ensures { result ≡ fits shapes.now (option_copied shape.entry) (value v.now) }
@@ -78,7 +87,9 @@ fn fits_array(
     last: i128,
     items: &Items<Value>,
 ) -> bool
-    ensures { result ≡ (bounds_fit shape.now.bounds shape.now.index first last && (length_of (values items.now) == range_length first last) && all_fit shapes.now (slice_get shapes.now shape.now.item) (values items.now)) }
+    ensures { let item = slice_get shapes.now shape.now.item in
+        let bounds = bounds_fit shape.now.bounds shape.now.index first last in
+        result ≡ (bounds && (length_of (values items.now) == range_length first last) && all_fit shapes.now item (values items.now)) }
 {
     has_bounds(shape, first, last, items.len()) && all_fit(shapes, shape.item, items)
 }
