@@ -1,6 +1,7 @@
 //! Files as a keeper.
-ghost use Rattle.std.specs.Prelude.{◌≡◌, ◌<◌, ◌≤◌, ℕ, List, length, vec_len, IfOk, OnOk, IfSome, Option, None};
+ghost use Rattle.std.specs.Prelude.{◌≡◌, ◌<◌, ◌≤◌, ◌↔◌, ℕ, List, length, vec_len, IfOk, OnOk, IfSome, Option, None};
 ghost use Rattle.std.specs.Bool.{OnTrue};
+ghost use Rattle.std.specs.IoError.{error_kind};
 ghost use Rattle.std.specs.Io.KnownBytes.{Consumes, IsAtEnd};
 
 use crate::keeper::{KeepFault, Keeper};
@@ -40,7 +41,9 @@ impl<R: Files> FileKeeper<R> {
 }
 
 /// Want of memory, or else a failure of the keeper.
-fn fault_of(error: io::Error) -> KeepFault {
+fn fault_of(error: io::Error) -> KeepFault
+    ensures { result ≡ KeepFault.Starved ↔ (error_kind error ≡ ErrorKind.OutOfMemory) }
+{
     if error.kind() == ErrorKind::OutOfMemory {
         KeepFault::Starved
     } else {

@@ -1,5 +1,5 @@
 //! A sink in memory.
-ghost use Rattle.std.specs.Prelude.{◌≡◌, ◌<◌, [], length, min, IfOk, IsErr, Some};
+ghost use Rattle.std.specs.Prelude.{◌≡◌, ◌-◌, ◌^◌, ◌<◌, [], length, min, IfOk, IsErr, Some};
 
 use crate::failing_calls::{CallList, FailingCalls};
 use crate::sink::{Failed, Sink};
@@ -20,6 +20,7 @@ impl ListSink {
     pub fn new(alloc: Global, failing: CallList) -> ListSink
         ensures empty { result.written.items ≡ [] }
         ensures failing { result.calls ≡ record { made = 0; failing = failing } }
+        ensures most { result.most ≡ 2 ^ 64 - 1 }
         ensures no_faults { result.faults ≡ 0 }
     {
         ListSink::taking(alloc, failing, usize::MAX)

@@ -6,19 +6,30 @@ use std::test::Fail;
 
 const TEXT: &[u8] = b"procedure Main;";
 
-fn entry(alloc: Global, name: &str, bytes: &[u8]) -> Result<Entry, Fail> {
+fn entries(alloc: Global, name: &str, bytes: &[u8]) -> Result<EntryList, Fail> {
     let name = NameText::from_text(alloc, name)?;
     let bytes = ByteList::from_slice(alloc, bytes)?;
-    Ok(Entry { name, bytes })
+    let mut entries = EntryList::new(alloc);
+    entries.push(Entry { name, bytes })?;
+    Ok(entries)
+}
+
+/// A keeper of one entry, one call of which fails.
+fn keeper_of_one(alloc: Global, failing: u64) -> Result<MapKeeper, Fail> {
+    let failing = CallList::from_slice(alloc, &[failing])?;
+    Ok(MapKeeper::new(entries(alloc, "b.adb", b"old")?, failing))
 }
 
 /// Puts the bytes under a name, gets them again, and asks for another name.
-fn put_and_get<K: Keeper>(alloc: Global, keeper: &mut K, name: &str) -> Result<[bool; 3], Fail> {
-    let name = NameText::from_text(alloc, name)?;
+fn put_and_get<K: Keeper>(
+    alloc: Global,
+    keeper: &mut K,
+    name: &NameText,
+) -> Result<[bool; 3], Fail> {
     let other = NameText::from_text(alloc, "none.adb")?;
     let bytes = ByteList::from_slice(alloc, TEXT)?;
-    let put = keeper.put(alloc, &name, &bytes).is_ok();
-    let same = match keeper.get(alloc, &name) {
+    let put = keeper.put(alloc, name, &bytes).is_ok();
+    let same = match keeper.get(alloc, name) {
         Ok(Some(found)) => found.as_slice() == TEXT,
         _ => false,
     };
@@ -29,22 +40,19 @@ fn put_and_get<K: Keeper>(alloc: Global, keeper: &mut K, name: &str) -> Result<[
 #[test]
 fn listed_calls_of_a_keeper_fail(rt: HostRuntime) -> Result<(), Fail> {
     let alloc = rt.alloc();
-    let cases = [
-        (0, [true, true, true]),
-        (1, [false, false, true]),
-        (2, [true, false, true]),
-        (3, [true, true, false]),
+    let b = NameText::from_text(alloc, "b.adb")?;
+    // The call that fails, the answers that are right, and what is kept in the end.
+    let cases: [(u64, [bool; 3], &[u8]); 4] = [
+        (0, [true, true, true], TEXT),
+        (1, [false, false, true], b"old"),
+        (2, [true, false, true], TEXT),
+        (3, [true, true, false], TEXT),
     ];
-    for (failing, want) in cases {
-        let mut entries = EntryList::new(alloc);
-        entries.push(entry(alloc, "b.adb", b"old")?)?;
-        let failing = CallList::from_slice(alloc, &[failing])?;
-        let mut keeper = MapKeeper::new(entries, failing);
-        assert_eq!(rt; put_and_get(alloc, &mut keeper, "b.adb")?, want);
-        assert_eq!(rt; keeper.calls(), 3);
-        let b = NameText::from_text(alloc, "b.adb")?;
-        let kept = if want[0] { TEXT } else { b"old" };
-        assert!(rt; keeper.bytes(&b) == Some(kept));
+    for (failing, want, kept) in cases {
+        let mut keeper = keeper_of_one(alloc, failing)?;
+        let answers = put_and_get(alloc, &mut keeper, &b)?;
+        assert!(rt; answers == want && keeper.calls() == 3, "call {failing}");
+        assert!(rt; keeper.bytes(&b) == Some(kept), "call {failing}");
     }
     Ok(())
 }
@@ -52,12 +60,13 @@ fn listed_calls_of_a_keeper_fail(rt: HostRuntime) -> Result<(), Fail> {
 #[test]
 fn a_put_keeps_the_other_entries(rt: HostRuntime) -> Result<(), Fail> {
     let alloc = rt.alloc();
-    let mut entries = EntryList::new(alloc);
-    entries.push(entry(alloc, "a.adb", b"1")?)?;
-    let mut keeper = MapKeeper::new(entries, CallList::new(alloc));
-    for name in ["b.adb", "a.adb", "b.adb"] {
-        assert_eq!(rt; put_and_get(alloc, &mut keeper, name)?, [true, true, true]);
-    }
+    let a = NameText::from_text(alloc, "a.adb")?;
+    let b = NameText::from_text(alloc, "b.adb")?;
+    let mut keeper = keeper_of_one(alloc, 0)?;
+    let first = put_and_get(alloc, &mut keeper, &a)?;
+    assert!(rt; first == [true, true, true] && keeper.bytes(&b) == Some(b"old"));
+    let second = put_and_get(alloc, &mut keeper, &b)?;
+    assert!(rt; second == [true, true, true] && keeper.bytes(&a) == Some(TEXT));
     assert_eq!(rt; keeper.entries().len(), 2);
     Ok(())
 }
@@ -91,14 +100,10 @@ fn listed_calls_of_a_sink_fail(rt: HostRuntime) -> Result<(), Fail> {
 fn a_file_is_written_and_read(rt: HostRuntime) -> Result<(), Fail> {
     let alloc = rt.alloc();
     let mut keeper = FileKeeper::new(&rt);
-    assert_eq!(rt;
-        put_and_get(alloc, &mut keeper, "main.adb")?,
-        [true, true, true]
-    );
-    assert_eq!(rt;
-        put_and_get(alloc, &mut keeper, "absent/main.adb")?,
-        [false, false, true]
-    );
+    let main = NameText::from_text(alloc, "main.adb")?;
+    assert!(rt; put_and_get(alloc, &mut keeper, &main)? == [true, true, true]);
+    let absent = NameText::from_text(alloc, "absent/main.adb")?;
+    assert!(rt; put_and_get(alloc, &mut keeper, &absent)? == [false, false, true]);
     Ok(())
 }
 

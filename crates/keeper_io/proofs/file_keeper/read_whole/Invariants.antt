@@ -1,4 +1,4 @@
-use Rattle.std.proofs.Common.{◌≡◌, ◌<◌, ◌≤◌, vec_len}
+use Rattle.std.proofs.Common.{◌<◌, ◌≤◌, vec_len}
 use Rattle.std.specs.Io.KnownBytes.{Consumes}
 use Rattle.keeper_io.proofs.file_keeper.read_whole.Given as goal
 
