@@ -6,3 +6,5 @@ pub mod Targets
 pub mod Running
 pub mod Plain
 pub mod Cases
+pub mod Expressions
+pub mod Loops

@@ -7,9 +7,9 @@ use Rattle.typed_units.specs.declared.operators.Bounds.{Bounds}
 use Rattle.typed_units.specs.declared.operators.Composite.{Composite}
 use Rattle.typed_units.specs.declared.operators.Connective.{Connective}
 use Rattle.typed_units.specs.declared.checks.CheckKind.TheVariants as kind
-use Rattle.typed_units.specs.Syntax.{Var, index, answer, Ex, at, Nd, static, read, op1, op2, connect, member, call, aggregate, choose, quantified, Exs, no_exs, fitted, Arms, other, arm, Assocs, no_assocs, assoc}
+use Rattle.typed_units.specs.Syntax.{Var, index, answer, Ex, at, Nd, static, read, component, op1, op2, connect, member, call, aggregate, choose, quantified, Exs, no_exs, fitted, Arms, other, arm, Assocs, no_assocs, assoc}
 use Rattle.ada_semantics.specs.Outcome.{Res, gives, fails, short, unset, bind, spend, pick, wanted, site}
-use Rattle.ada_semantics.specs.Store.{Slot, full, Slots, empties, whole, wholes, Store, Frame, set, state_in, entered}
+use Rattle.ada_semantics.specs.Store.{Slot, full, Slots, empties, whole, wholes, component_slot, Store, Frame, set, state_in, entered}
 use Rattle.ada_semantics.specs.Operators.{span, checked, apply1, apply2, member_of, stops_at, joined, truth_of, number_of, quantify, claims_any, fill, built}
 
 -- What a call does to the variables with which its subprogram begins: it comes back with those that it leaves, or with
@@ -32,6 +32,7 @@ abbrev mutual
   pub node_value : Calls → Place → Nd → Frame → ℕ → Res Val
   node_value calls p (static v) f n = gives v n
   node_value calls p (read w x) f n = wanted (whole (state_in f w x)) n
+  node_value calls p (component k a) f n = bind (slot_of calls a f n) (λ s m. wanted (whole (component_slot k s)) m)
   node_value calls p (op1 k a) f n = bind (value_of calls a f n) (λ v m. apply1 k (place_of a) v m)
   node_value calls p (op2 k a b) f n =
       bind (value_of calls a f n) (λ u m. bind (value_of calls b f m) (λ v j. apply2 k (place_of b) u v j))
@@ -50,6 +51,12 @@ abbrev mutual
   node_value calls p (quantified q k l h e) f n =
       bind (value_of calls l f n) (λ u m. bind (value_of calls h f m) (λ v j. number_of u (λ lo. number_of v (λ hi.
       quantify (span lo hi) q lo (λ i r. value_of calls e (set f (index k) (full (number i))) r) j))))
+
+  -- what a component is taken from, of which some other components may not be set (Ada RM 4.1.3)
+  pub slot_of : Calls → Ex → Frame → ℕ → Res Slot
+  slot_of calls (at p (read w x)) f n = spend n (λ m. gives (state_in f w x) m)
+  slot_of calls (at p (component k a)) f n = spend n (λ m. bind (slot_of calls a f m) (λ s j. gives (component_slot k s) j))
+  slot_of calls (at p x) f n = spend n (λ m. bind (node_value calls p x f m) (λ v j. gives (full v) j))
 
   -- values with their range checks, from left to right
   pub values_of : Calls → Exs → Frame → ℕ → Res (List Val)

@@ -43,7 +43,6 @@ pub data Op1 : Type 0 where
   negation : Op1
   unary : Op → Scalar → Place → Op1
   convert : Fit → Op1
-  component : ℕ → Op1
 
 -- an operator of two operands; `item` tells whether there is an index check
 pub data Op2 : Type 0 where
@@ -59,6 +58,7 @@ mutual
   pub data Nd : Type 0 where
     static : Val → Nd
     read : Moment → Var → Nd
+    component : ℕ → Ex → Nd
     op1 : Op1 → Ex → Nd
     op2 : Op2 → Ex → Ex → Nd
     connect : Connective → Ex → Ex → Nd
