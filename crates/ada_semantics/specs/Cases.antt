@@ -6,15 +6,22 @@ use Rattle.ada_values.specs.declared.scalars.Op.{Op}
 use Rattle.ada_values.specs.declared.scalars.Op.TheVariants as op
 use Rattle.ada_values.specs.declared.scalars.Scalar.{Scalar}
 use Rattle.typed_units.specs.declared.operators.Bounds.{Bounds}
+use Rattle.typed_units.specs.declared.operators.Connective.{Connective}
 use Rattle.typed_units.specs.declared.operators.Relation.{Relation}
 use Rattle.typed_units.specs.declared.operators.Relation.TheVariants as relation
 use Rattle.typed_units.specs.declared.checks.CheckKind.{CheckKind}
 use Rattle.typed_units.specs.declared.checks.SiteKey.{SiteKey}
 use Rattle.typed_units.specs.declared.programs.Mode.{Mode}
 use Rattle.typed_units.specs.declared.programs.Mode.TheVariants as mode
-use Rattle.typed_units.specs.Syntax.{Var, param, Fit, present, binary, compare, Ex, at, static, read, op2, Step, Target, St, st, assign, give, assert, Sts, done, then, Formal, Routine, Text}
+use Rattle.typed_units.specs.Syntax.{Var, param, Fit, present, same, negation, unary, convert, binary, compare, Op1, Ex, at, static, read, op1, op2, connect, Step, Target, St, st, assign, invoke, branch, Branches, otherwise, when, give, assert, return, Actual, Sts, done, then, Formal, Routine, Text}
 use Rattle.ada_semantics.specs.Values.{place_of}
 use Rattle.ada_semantics.specs.Plain.{Plain, ends}
+
+pub mod Expressions
+pub mod Statements
+pub mod Loops
+pub mod Calls
+pub mod Parts
 
 -- ---- places
 
@@ -56,6 +63,14 @@ num l c n = at (place l c) (static (number (pos n)))
 abbrev pub name : ℕ → ℕ → Var → Ex
 name l c x = at (place l c) (read present x)
 
+-- a static truth value
+abbrev pub flag : ℕ → ℕ → Bool → Ex
+flag l c b = at (place l c) (static (truth b))
+
+-- an operator of one operand, which stands before it
+abbrev pub prefix : Op1 → ℕ → ℕ → Ex → Ex
+prefix o l c a = at (place l c) (op1 o a)
+
 -- an expression in parentheses, the first of which stands there
 abbrev pub parens : ℕ → ℕ → Ex → Ex
 parens l c (at p x) = at (place l c) x
@@ -68,6 +83,9 @@ plus = calc op.Add integer
 
 abbrev pub minus : ℕ → ℕ → Ex → Ex → Ex
 minus = calc op.Sub integer
+
+abbrev pub times : ℕ → ℕ → Ex → Ex → Ex
+times = calc op.Mul integer
 
 abbrev pub over : ℕ → ℕ → Ex → Ex → Ex
 over = calc op.Quo integer
@@ -83,6 +101,9 @@ less = related relation.Less
 
 abbrev pub greater : Ex → Ex → Ex
 greater = related relation.Greater
+
+abbrev pub both : Connective → Ex → Ex → Ex
+both c a b = at (place_of a) (connect c a b)
 
 -- ---- statements
 
@@ -108,6 +129,13 @@ claim l c e = st (place l c) (assert e)
 
 abbrev pub give_back : ℕ → ℕ → Fit → Ex → St
 give_back l c fit e = st (place l c) (give fit e)
+
+abbrev pub call_of : ℕ → ℕ → ℕ → List Actual → St
+call_of l c q as' = st (place l c) (invoke q as')
+
+-- `if` with one branch, and what stands after `else`
+abbrev pub if_so : ℕ → ℕ → Ex → List St → List St → St
+if_so l c e ss els = st (place l c) (branch (when e (seq ss) (otherwise (seq els))))
 
 -- ---- subprograms
 

@@ -6,5 +6,3 @@ pub mod Targets
 pub mod Running
 pub mod Plain
 pub mod Cases
-pub mod Expressions
-pub mod Loops
