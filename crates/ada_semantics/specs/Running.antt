@@ -11,7 +11,7 @@ use Rattle.typed_units.specs.declared.statements.Direction.{Direction}
 use Rattle.typed_units.specs.declared.statements.Direction.TheVariants as direction
 use Rattle.typed_units.specs.Syntax.{Fit, Var, param, turn, answer, Ex, Target, Actual, pass_in, pass_out, pass_in_out, Way, Demand, invariant, variant, Head, forever, while, for, St, st, Ac, skip, assign, invoke, branch, case_of, loop, exit, exit_when, return, give, assert, assume, Sts, done, then, Branches, otherwise, when, Alternatives, no_alternatives, alternative}
 use Rattle.ada_semantics.specs.Outcome.{Res, gives, fails, short, unset, bind, spend, pick, wanted, site, check}
-use Rattle.ada_semantics.specs.Store.{full, whole, Store, Frame, set, enter_loop, entered, with_globals}
+use Rattle.ada_semantics.specs.Store.{full, full_if, whole, put, Store, Frame, set, enter_loop, entered, with_globals}
 use Rattle.ada_semantics.specs.Operators.{span, checked, truth_of, number_of, lies_in}
 use Rattle.ada_semantics.specs.Values.{Calls, value_of, place_of}
 use Rattle.ada_semantics.specs.Targets.{Spot, located, slot_in, write}
@@ -45,8 +45,9 @@ pub record Return : Type 0 where
   pub spots : List Spot
   pub fit : Fit
 
--- an actual that was evaluated: the parameter's value, where it has one, and its way back
+-- an actual that was evaluated: the number of its formal, the parameter's value, where it has one, and its way back
 pub record Passed : Type 0 where
+  pub formal : ℕ
   pub value : Option Val
   pub back : Option Return
 
@@ -54,31 +55,36 @@ abbrev pub return_to : Target → List Spot → Fit → Return
 return_to t spots fit = record { place = t.place; var = t.var; spots = spots; fit = fit }
 
 abbrev pub one_passed : Calls → Actual → Frame → ℕ → Res Passed
-one_passed calls (pass_in fit e) f n = bind (fitting calls fit e f n) (λ v m. gives (record { value = Some v; back = None }) m)
-one_passed calls (pass_out t fit) f n =
-    bind (located calls t f n) (λ ss m. gives (record { value = None; back = Some (return_to t ss fit) }) m)
-one_passed calls (pass_in_out t inward fit) f n =
+one_passed calls (pass_in k fit e) f n = bind (fitting calls fit e f n) (λ v m. gives (record { formal = k; value = Some v; back = None }) m)
+one_passed calls (pass_out k t fit) f n =
+    bind (located calls t f n) (λ ss m. gives (record { formal = k; value = None; back = Some (return_to t ss fit) }) m)
+one_passed calls (pass_in_out k t inward fit) f n =
     bind (located calls t f n) (λ ss m.
     bind (wanted (whole (slot_in ss (f.state t.var))) m) (λ v j.
-    bind (checked inward t.place v j) (λ w k. gives (record { value = Some w; back = Some (return_to t ss fit) }) k)))
+    bind (checked inward t.place v j) (λ w r. gives (record { formal = k; value = Some w; back = Some (return_to t ss fit) }) r)))
 
 -- the actuals, from left to right
 abbrev pub passed : Calls → List Actual → Frame → ℕ → Res (List Passed)
 passed calls [] f n = gives [] n
 passed calls (a ∷ as') f n = bind (one_passed calls a f n) (λ p m. bind (passed calls as' f m) (λ ps j. gives (p ∷ ps) j))
 
--- the copies back from left to right, of the parameters from the k-th on
-abbrev pub copied_back : List Passed → ℕ → Store → Frame → ℕ → Res Stop
-copied_back [] k s f n = gives (goes f) n
-copied_back (p ∷ ps) k s f n = elim p.back [
-    None ↦ copied_back ps (suc k) s f n
-  | Some r ↦ bind (wanted (whole (s (param k))) n) (λ v m. bind (checked r.fit r.place v m) (λ w j.
-      copied_back ps (suc k) s (write f r.var r.spots w) j)) ]
+-- the callee's variables with its parameters
+abbrev pub with_params : List Passed → Store → Store
+with_params [] s = s
+with_params (p ∷ ps) s = with_params ps (put s (param p.formal) (full_if p.value))
+
+-- the copies back from left to right, where the callee left the variables `s`
+abbrev pub copied_back : List Passed → Store → Frame → ℕ → Res Stop
+copied_back [] s f n = gives (goes f) n
+copied_back (p ∷ ps) s f n = elim p.back [
+    None ↦ copied_back ps s f n
+  | Some r ↦ bind (wanted (whole (s (param p.formal))) n) (λ v m. bind (checked r.fit r.place v m) (λ w j.
+      copied_back ps s (write f r.var r.spots w) j)) ]
 
 -- after the subprogram came back
 abbrev pub came_back : Place → List Passed → Frame → Option Store → ℕ → Res Stop
 came_back p ps f None n = fails (site p kind.Pre)
-came_back p ps f (Some s) n = copied_back ps 0 s (record f { state = with_globals f.state s }) n
+came_back p ps f (Some s) n = copied_back ps s (record f { state = with_globals f.state s }) n
 
 -- ---- the group of a loop (SPARK RM 5.5.3)
 
@@ -172,7 +178,7 @@ abbrev mutual
       bind (located calls t f n) (λ ss m. bind (fitting calls fit e f m) (λ v j. gives (goes (write f t.var ss v)) j))
   action_of calls p (invoke q as') f n =
       bind (passed calls as' f n) (λ ps m.
-      bind (calls q (entered f.state (map (λ a. a.value) ps)) m) (λ s j. came_back p ps f s j))
+      bind (calls q (with_params ps (entered f.state)) m) (λ s j. came_back p ps f s j))
   action_of calls p (branch bs) f n = branch_of calls bs f n
   action_of calls p (case_of e as') f n =
       bind (value_of calls e f n) (λ v m. number_of v (λ x. selected calls as' x f m))

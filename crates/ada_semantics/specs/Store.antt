@@ -121,11 +121,10 @@ nth [] k = None
 nth (x ∷ xs) zero = x
 nth (x ∷ xs) (suc k) = nth xs k
 
--- the variables of a subprogram that is called with these parameters: all others but the globals are empty
-abbrev pub entered : Store → List (Option Val) → Store
-entered s vs (param k) = full_if (nth vs k)
-entered s vs (global k) = s (global k)
-entered s vs _ = empty
+-- the variables of a subprogram that is called, before it has its parameters
+abbrev pub entered : Store → Store
+entered s (global k) = s (global k)
+entered s _ = empty
 
 -- the caller's variables after a call that left these
 abbrev pub with_globals : Store → Store → Store

@@ -7,9 +7,9 @@ use Rattle.typed_units.specs.declared.operators.Bounds.{Bounds}
 use Rattle.typed_units.specs.declared.operators.Composite.{Composite}
 use Rattle.typed_units.specs.declared.operators.Connective.{Connective}
 use Rattle.typed_units.specs.declared.checks.CheckKind.TheVariants as kind
-use Rattle.typed_units.specs.Syntax.{Var, index, answer, Ex, at, Nd, static, read, component, op1, op2, connect, member, call, aggregate, choose, quantified, Exs, no_exs, fitted, Arms, other, arm, Assocs, no_assocs, assoc}
+use Rattle.typed_units.specs.Syntax.{Var, param, index, answer, Ex, at, Nd, static, read, component, op1, op2, connect, member, call, aggregate, choose, quantified, Exs, no_exs, fitted, Arms, other, arm, Assocs, no_assocs, assoc}
 use Rattle.ada_semantics.specs.Outcome.{Res, gives, fails, short, unset, bind, spend, pick, wanted, site}
-use Rattle.ada_semantics.specs.Store.{Slot, full, Slots, empties, whole, wholes, component_slot, Store, Frame, set, state_in, entered}
+use Rattle.ada_semantics.specs.Store.{Slot, full, Slots, empties, whole, wholes, component_slot, Store, put, Frame, set, state_in, entered}
 use Rattle.ada_semantics.specs.Operators.{span, checked, apply1, apply2, member_of, stops_at, joined, truth_of, number_of, quantify, claims_any, fill, built}
 
 -- What a call does to the variables with which its subprogram begins: it comes back with those that it leaves, or with
@@ -43,7 +43,7 @@ abbrev mutual
   node_value calls p (member is a l h) f n =
       bind (value_of calls a f n) (λ u m. bind (value_of calls l f m) (λ v j. bind (value_of calls h f j) (λ w k. member_of is u v w k)))
   node_value calls p (call q es) f n =
-      bind (values_of calls es f n) (λ vs m. bind (calls q (entered f.state (map Some vs)) m) (λ s j. result_of p s j))
+      bind (values_of calls es (entered f.state) f n) (λ s m. bind (calls q s m) (λ t j. result_of p t j))
   node_value calls p (aggregate c b es) f n =
       bind (associated calls es b.first (empties (span b.first b.last)) f n) (λ ss m.
       bind (wanted (wholes ss) m) (λ vs j. gives (built c b vs) j))
@@ -58,12 +58,11 @@ abbrev mutual
   slot_of calls (at p (component k a)) f n = spend n (λ m. bind (slot_of calls a f m) (λ s j. gives (component_slot k s) j))
   slot_of calls (at p x) f n = spend n (λ m. bind (node_value calls p x f m) (λ v j. gives (full v) j))
 
-  -- values with their range checks, from left to right
-  pub values_of : Calls → Exs → Frame → ℕ → Res (List Val)
-  values_of calls no_exs f n = gives [] n
-  values_of calls (fitted fit e es) f n =
-      bind (value_of calls e f n) (λ v m. bind (checked fit (place_of e) v m) (λ w j.
-      bind (values_of calls es f j) (λ vs k. gives (w ∷ vs) k)))
+  -- the parameters of a function, with their range checks, from left to right (Ada RM 6.4.1)
+  pub values_of : Calls → Exs → Store → Frame → ℕ → Res Store
+  values_of calls no_exs s f n = gives s n
+  values_of calls (fitted k fit e es) s f n =
+      bind (value_of calls e f n) (λ v m. bind (checked fit (place_of e) v m) (λ w j. values_of calls es (put s (param k) (full w)) f j))
 
   -- the first arm whose condition is True
   pub chosen : Calls → Arms → Frame → ℕ → Res Val

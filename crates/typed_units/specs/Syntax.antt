@@ -69,10 +69,10 @@ mutual
     choose : Arms → Nd
     quantified : Quantifier → ℕ → Ex → Ex → Ex → Nd
 
-  -- expressions whose values are checked and passed
+  -- expressions whose values are checked and passed, each for the formal parameter of a number, as they are written
   pub data Exs : Type 0 where
     no_exs : Exs
-    fitted : Fit → Ex → Exs → Exs
+    fitted : ℕ → Fit → Ex → Exs → Exs
 
   -- conditions with what each gives, and what stands after `else`
   pub data Arms : Type 0 where
@@ -95,11 +95,11 @@ pub record Target : Type 0 where
   pub var : Var
   pub path : List Step
 
--- what is passed: the check on the way in, and that on the way back
+-- what is passed for the formal parameter of a number: the check on the way in, and that on the way back
 pub data Actual : Type 0 where
-  pass_in : Fit → Ex → Actual
-  pass_out : Target → Fit → Actual
-  pass_in_out : Target → Fit → Fit → Actual
+  pass_in : ℕ → Fit → Ex → Actual
+  pass_out : ℕ → Target → Fit → Actual
+  pass_in_out : ℕ → Target → Fit → Fit → Actual
 
 pub record Way : Type 0 where
   pub direction : Direction
