@@ -1,6 +1,7 @@
 //! The meaning of typed programs: what a run of a subprogram does, with worked cases as laws.
 #![tactic(auto)]
 
+pub mod budgets;
 pub mod calls;
 pub mod expressions;
 pub mod loops;

@@ -1,0 +1,38 @@
+-- What is left of a budget.
+use Rattle.std.specs.Prelude.{ℕ, ◌≤◌, ◌<◌}
+use Rattle.ada_semantics.specs.Outcome.{Res, gives, fails, short, unset}
+use Rattle.ada_semantics.specs.Store.{Store, Frame}
+use Rattle.typed_units.specs.Syntax.{Ex, Sts, Text}
+use Rattle.ada_semantics.specs.Values.{Calls, value_of}
+use Rattle.ada_semantics.specs.Running.{run_of}
+use Rattle.ada_semantics.specs.Plain.{calls_within}
+
+-- at most n units are left
+abbrev pub Left : {A : Type 0} → ℕ → Res A → Type 0
+Left n (gives a m) = m ≤ n
+Left n (fails c) = Unit {0}
+Left n short = Unit {0}
+Left n unset = Unit {0}
+
+-- fewer than n units are left
+abbrev pub Took : {A : Type 0} → ℕ → Res A → Type 0
+Took n (gives a m) = m < n
+Took n (fails c) = Unit {0}
+Took n short = Unit {0}
+Took n unset = Unit {0}
+
+-- no call leaves more than it was given
+abbrev pub CallsTake : Calls → Type 0
+CallsTake calls = (q : ℕ) (s : Store) (n : ℕ) → Left n (calls q s n)
+
+-- an expression takes a unit at least
+abbrev pub ValuesTake : Type 0
+ValuesTake = (calls : Calls) → CallsTake calls → (e : Ex) (f : Frame) (n : ℕ) → Took n (value_of calls e f n)
+
+-- statements leave no more than they were given
+abbrev pub RunsTake : Type 0
+RunsTake = (calls : Calls) → CallsTake calls → (ss : Sts) (f : Frame) (n : ℕ) → Left n (run_of calls ss f n)
+
+-- so no call of a program leaves more, however deep calls may lie
+abbrev pub ProgramsTake : Type 0
+ProgramsTake = (depth : ℕ) (p : Text) → CallsTake (calls_within depth p)
