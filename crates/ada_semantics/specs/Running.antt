@@ -1,4 +1,4 @@
--- The run of statements: each statement, initial value and turn of a loop takes a unit of the budget.
+-- The run of statements (Ada RM 5): each statement, initial value and turn of a loop takes a unit of the budget.
 use Rattle.std.specs.Prelude.{ℕ, zero, suc, Bool, true, false, not, ◌&&◌, ◌||◌, Option, Some, None, List, [], ◌∷◌, map, ℤ, pos, negsuc, ◌+ℤ◌}
 use Rattle.std.specs.Ordering.{int_eq}
 use Rattle.std.specs.Int.RustNames.{int_lt}
@@ -16,7 +16,8 @@ use Rattle.ada_semantics.specs.Operators.{span, checked, truth_of, number_of, li
 use Rattle.ada_semantics.specs.Values.{Calls, value_of, place_of}
 use Rattle.ada_semantics.specs.Targets.{Spot, located, slot_in, write}
 
--- how statements come to an end: they go on, leave the loop around them, or return from the subprogram
+-- how statements come to an end: they go on, leave the loop around them (Ada RM 5.7), or return from the subprogram
+-- (Ada RM 6.5)
 pub data Stop : Type 0 where
   goes : Frame → Stop
   leaves : Frame → Stop
@@ -28,11 +29,11 @@ next go (goes f) n = go f n
 next go (leaves f) n = gives (leaves f) n
 next go (returns f) n = gives (returns f) n
 
--- a condition that must be True, with its check
+-- a condition that must be True, with its check (Ada RM 6.1.1, 11.4.2)
 abbrev pub holds_at : {A : Type 0} → Calls → CheckKind → Ex → Frame → ℕ → (ℕ → Res A) → Res A
 holds_at calls k e f n go = bind (value_of calls e f n) (λ v m. truth_of v (λ b. check b (place_of e) k (go m)))
 
--- a value with its range check
+-- a value with its range check (Ada RM 3.5, 4.6)
 abbrev pub fitting : Calls → Fit → Ex → Frame → ℕ → Res Val
 fitting calls fit e f n = bind (value_of calls e f n) (λ v m. checked fit (place_of e) v m)
 
@@ -173,22 +174,28 @@ abbrev mutual
   step_of calls (st p a) f n = spend n (λ m. action_of calls p a f m)
 
   pub action_of : Calls → Place → Ac → Frame → ℕ → Res Stop
+  -- Ada RM 5.1, 5.2
   action_of calls p skip f n = gives (goes f) n
   action_of calls p (assign t fit e) f n =
       bind (located calls t f n) (λ ss m. bind (fitting calls fit e f m) (λ v j. gives (goes (write f t.var ss v)) j))
+  -- Ada RM 6.4, 6.4.1
   action_of calls p (invoke q as') f n =
       bind (passed calls as' f n) (λ ps m.
       bind (calls q (with_params ps (entered f.state)) m) (λ s j. came_back p ps f s j))
+  -- Ada RM 5.3, 5.4
   action_of calls p (branch bs) f n = branch_of calls bs f n
   action_of calls p (case_of e as') f n =
       bind (value_of calls e f n) (λ v m. number_of v (λ x. selected calls as' x f m))
+  -- Ada RM 5.5, 5.7
   action_of calls p (loop k h before group after) f n =
       looped calls h (one_turn (run_of calls before) (λ last g j. demanded calls group last [] g j) (run_of calls after)) (enter_loop f k) n
   action_of calls p exit f n = gives (leaves f) n
   action_of calls p (exit_when e) f n =
       bind (value_of calls e f n) (λ v m. truth_of v (λ b. gives (pick b (leaves f) (goes f)) m))
+  -- Ada RM 6.5
   action_of calls p return f n = gives (returns f) n
   action_of calls p (give fit e) f n = bind (fitting calls fit e f n) (λ v m. gives (returns (set f answer (full v))) m)
+  -- Ada RM 11.4.2, SPARK RM 5.9
   action_of calls p (assert e) f n = holds_at calls kind.Assert e f n (λ m. gives (goes f) m)
   action_of calls p (assume e) f n = holds_at calls kind.Assume e f n (λ m. gives (goes f) m)
 

@@ -1,4 +1,4 @@
--- The variables of a subprogram at work.
+-- The variables of a subprogram at work (Ada RM 3.3.1).
 use Rattle.std.specs.Prelude.{ℕ, zero, suc, Bool, true, false, ◌&&◌, ◌==◌, Option, Some, None, List, [], ◌∷◌}
 use Rattle.ada_values.specs.Value.{Val, number, truth, array, record_of, Vals, no_vals, val, val_at, with_val}
 use Rattle.typed_units.specs.Syntax.{Var, param, local, global, turn, index, answer, Moment, present, entry, loop_entry}
@@ -95,7 +95,8 @@ Store = Var → Slot
 abbrev pub put : Store → Var → Slot → Store
 put s x new = λ y. pick (same_var x y) new (s y)
 
--- a subprogram at work: its variables as they are, as they were at its start, and as they were when each loop was entered
+-- a subprogram at work: its variables as they are, as they were at its start (Ada RM 6.1.1, `'Old`), and as they were when
+-- each loop was entered (SPARK RM 5.5.3.1, `'Loop_Entry`)
 pub record Frame : Type 0 where
   pub state : Store
   pub start : Store
