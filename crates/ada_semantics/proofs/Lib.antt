@@ -1,2 +1,4 @@
 pub mod Spent
 pub mod SpentRunning
+pub mod Agreed
+pub mod AgreedRunning

@@ -96,11 +96,11 @@ checks fit p v n = passes (keeps fit v) p _ n _ (given v n)
 
 -- ---- operators
 
-computes : (r : Result ℤ OpFault) (p q : Place) (n : ℕ) → Keeps n (computed r p q n)
+pub computes : (r : Result ℤ OpFault) (p q : Place) (n : ℕ) → Keeps n (computed r p q n)
 computes (Ok x) p q n = given _ n
 computes (Err e) p q n = failing _ n
 
-apply1_left : (o : Op1) (q : Place) (v : Val) (n : ℕ) → Keeps n (apply1 o q v n)
+pub apply1_left : (o : Op1) (q : Place) (v : Val) (n : ℕ) → Keeps n (apply1 o q v n)
 apply1_left first q (array f l vs) n = given _ n
 apply1_left last q (array f l vs) n = given _ n
 apply1_left (length_at p s) q (array f l vs) n = passes _ p _ n _ (given _ n)
@@ -112,23 +112,23 @@ apply1_left (unary o s p) q (number x) n = computes _ p q n
 apply1_left (convert fit) q v n = checks fit q v n
 apply1_left _ q v n = nothing n
 
-related_left : (r : Relation) (u v : Val) (n : ℕ) → Keeps n (related r u v n)
+pub related_left : (r : Relation) (u v : Val) (n : ℕ) → Keeps n (related r u v n)
 related_left relation.Equal u v n = given _ n
 related_left relation.Differs u v n = given _ n
 related_left r (number x) (number y) n = given _ n
 related_left r _ _ n = nothing n
 
-item_left : (c : Bool) (q : Place) (u v : Val) (n : ℕ) → Keeps n (item_of c q u v n)
+pub item_left : (c : Bool) (q : Place) (u v : Val) (n : ℕ) → Keeps n (item_of c q u v n)
 item_left c q (array f l vs) (number x) n = picked _ n _ _ (wants _ n) (picked c n _ _ (failing _ n) (nothing n))
 item_left c q _ _ n = nothing n
 
-apply2_left : (o : Op2) (q : Place) (u v : Val) (n : ℕ) → Keeps n (apply2 o q u v n)
+pub apply2_left : (o : Op2) (q : Place) (u v : Val) (n : ℕ) → Keeps n (apply2 o q u v n)
 apply2_left (binary o s p) q (number x) (number y) n = computes _ p q n
 apply2_left (binary o s p) q _ _ n = nothing n
 apply2_left (compare r) q u v n = related_left r u v n
 apply2_left (item c) q u v n = item_left c q u v n
 
-member_left : (is : Bool) (u v w : Val) (n : ℕ) → Keeps n (member_of is u v w n)
+pub member_left : (is : Bool) (u v w : Val) (n : ℕ) → Keeps n (member_of is u v w n)
 member_left true (number x) (number l) (number h) n = given _ n
 member_left false (number x) (number l) (number h) n = given _ n
 member_left is _ _ _ n = nothing n
@@ -140,7 +140,7 @@ quantify_left (suc count) q i body n h = (spends n _ (λ m. bound (body i m) m _
 
 -- ---- expressions
 
-result_left : (p : Place) (s : Option Store) (n : ℕ) → Keeps n (result_of p s n)
+pub result_left : (p : Place) (s : Option Store) (n : ℕ) → Keeps n (result_of p s n)
 result_left p None n = failing _ n
 result_left p (Some s) n = wants _ n
 

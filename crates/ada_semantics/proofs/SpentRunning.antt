@@ -18,7 +18,7 @@ use Rattle.ada_semantics.proofs.Spent.{Keeps, given, failing, nothing, running_o
 
 -- ---- pieces that evaluate nothing
 
-position_left : (b : Option Bounds) (c : Bool) (p : Place) (v : Val) (n : ℕ) → Keeps n (position_in b c p v n)
+pub position_left : (b : Option Bounds) (c : Bool) (p : Place) (v : Val) (n : ℕ) → Keeps n (position_in b c p v n)
 position_left (Some b) c p (number x) n = picked _ n _ _ (given _ n) (picked c n _ _ (failing _ n) (nothing n))
 position_left _ c p v n = nothing n
 
@@ -26,14 +26,14 @@ back_left : (b : Option Return) (n : ℕ) (x : Res Stop) (go : Return → Res St
 back_left None n x go w h = w
 back_left (Some r) n x go w h = h r
 
-copied_left : (ps : List Passed) (s : Store) (f : Frame) (n : ℕ) → Keeps n (copied_back ps s f n)
+pub copied_left : (ps : List Passed) (s : Store) (f : Frame) (n : ℕ) → Keeps n (copied_back ps s f n)
 copied_left [] s f n = given _ n
 copied_left (p ∷ ps) s f n = back_left p.back n _ (λ r. bind (wanted (whole (s (param p.formal))) n) (λ v m. bind (checked r.fit r.place v m) (λ w j. copied_back ps s (write f r.var r.spots w) j)))
     (copied_left ps s f n)
     (λ r. bound (wanted (whole (s (param p.formal))) n) n _ (wants _ n) (λ v m. bound (checked r.fit r.place v m) m _ (checks r.fit r.place v m) (λ w j.
       copied_left ps s (write f r.var r.spots w) j)))
 
-came_left : (p : Place) (ps : List Passed) (f : Frame) (s : Option Store) (n : ℕ) → Keeps n (came_back p ps f s n)
+pub came_left : (p : Place) (ps : List Passed) (f : Frame) (s : Option Store) (n : ℕ) → Keeps n (came_back p ps f s n)
 came_left p ps f None n = failing _ n
 came_left p ps f (Some s) n = copied_left ps s (record f { state = with_globals f.state s }) n
 

@@ -1,11 +1,11 @@
 -- What is left of a budget.
-use Rattle.std.specs.Prelude.{ℕ, ◌≤◌, ◌<◌}
+use Rattle.std.specs.Prelude.{◌≡◌, ℕ, ◌≤◌, ◌<◌}
 use Rattle.ada_semantics.specs.Outcome.{Res, gives, fails, short, unset}
 use Rattle.ada_semantics.specs.Store.{Store, Frame}
-use Rattle.typed_units.specs.Syntax.{Ex, Sts, Text}
+use Rattle.typed_units.specs.Syntax.{Ex, Sts, Routine, Text}
 use Rattle.ada_semantics.specs.Values.{Calls, value_of}
 use Rattle.ada_semantics.specs.Running.{run_of}
-use Rattle.ada_semantics.specs.Plain.{calls_within}
+use Rattle.ada_semantics.specs.Plain.{one_call, calls_within}
 
 -- at most n units are left
 abbrev pub Left : {A : Type 0} → ℕ → Res A → Type 0
@@ -36,3 +36,7 @@ RunsTake = (calls : Calls) → CallsTake calls → (ss : Sts) (f : Frame) (n : �
 -- so no call of a program leaves more, however deep calls may lie
 abbrev pub ProgramsTake : Type 0
 ProgramsTake = (depth : ℕ) (p : Text) → CallsTake (calls_within depth p)
+
+-- A call answers the same whatever depth above its budget is allowed, so the depth of the plain run is none of its limits.
+abbrev pub AnyDepth : Type 0
+AnyDepth = (p : Text) (r : Routine) (s : Store) (n depth : ℕ) → n ≤ depth → one_call (calls_within depth p) r s n ≡ one_call (calls_within n p) r s n

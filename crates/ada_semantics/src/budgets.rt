@@ -1,6 +1,6 @@
 //! Budgets.
 
-ghost use Rattle.ada_semantics.specs.Budget.{ValuesTake, RunsTake, ProgramsTake};
+ghost use Rattle.ada_semantics.specs.Budget.{ValuesTake, RunsTake, ProgramsTake, AnyDepth};
 
 /// An expression takes a unit at least, where no call leaves more than it was given.
 pub fn values_take()
@@ -17,5 +17,11 @@ pub fn runs_take()
 /// No call of a program leaves more than it was given.
 pub fn programs_take()
     ensures { ProgramsTake }
+{
+}
+
+/// Calls may lie as deep in one another as the budget lets them.
+pub fn any_depth()
+    ensures { AnyDepth }
 {
 }
