@@ -1,11 +1,12 @@
 -- What is left of a budget.
-use Rattle.std.specs.Prelude.{◌≡◌, ℕ, ◌≤◌, ◌<◌}
+use Rattle.std.specs.Prelude.{◌≡◌, ℕ, ◌+◌, ◌≤◌, ◌<◌, List}
+use Rattle.ada_values.specs.Value.{Val}
 use Rattle.ada_semantics.specs.Outcome.{Res, gives, fails, short, unset}
 use Rattle.ada_semantics.specs.Store.{Store, Frame}
 use Rattle.typed_units.specs.Syntax.{Ex, Sts, Routine, Text}
 use Rattle.ada_semantics.specs.Values.{Calls, value_of}
 use Rattle.ada_semantics.specs.Running.{run_of}
-use Rattle.ada_semantics.specs.Plain.{one_call, calls_within}
+use Rattle.ada_semantics.specs.Plain.{Plain, ends, fails as plain_fails, short as plain_short, not_a_start, reads_unset, one_call, calls_within, plain}
 
 -- at most n units are left
 abbrev pub Left : {A : Type 0} → ℕ → Res A → Type 0
@@ -40,3 +41,29 @@ ProgramsTake = (depth : ℕ) (p : Text) → CallsTake (calls_within depth p)
 -- A call answers the same whatever depth above its budget is allowed, so the depth of the plain run is none of its limits.
 abbrev pub AnyDepth : Type 0
 AnyDepth = (p : Text) (r : Routine) (s : Store) (n depth : ℕ) → n ≤ depth → one_call (calls_within depth p) r s n ≡ one_call (calls_within n p) r s n
+
+-- what came of n units comes of n + k too, with k more left; only a budget that was spent says nothing
+abbrev pub Grows : {A : Type 0} → ℕ → Res A → Res A → Type 0
+Grows k (gives a m) t = t ≡ gives a (m + k)
+Grows k (fails c) t = t ≡ fails c
+Grows k short t = Unit {0}
+Grows k unset t = t ≡ unset
+
+-- an evaluation with more of a budget
+abbrev pub CallsGrow : ℕ → Calls → Calls → Type 0
+CallsGrow k calls others = (q : ℕ) (s : Store) (n : ℕ) → Grows k (calls q s n) (others q s (n + k))
+
+-- a call of a program comes to the same with more budget, at any depth that isn't less
+abbrev pub MoreForCalls : Type 0
+MoreForCalls = (depth other k : ℕ) (p : Text) → depth ≤ other → CallsGrow k (calls_within depth p) (calls_within other p)
+
+abbrev pub Settled : Plain → Plain → Type 0
+Settled plain_short t = Unit {0}
+Settled (ends s) t = t ≡ ends s
+Settled (plain_fails c) t = t ≡ plain_fails c
+Settled not_a_start t = t ≡ not_a_start
+Settled reads_unset t = t ≡ reads_unset
+
+-- a run that doesn't spend its budget comes to the same with more
+abbrev pub MoreForRuns : Type 0
+MoreForRuns = (p : Text) (q : ℕ) (params globals : List Val) (n k : ℕ) → Settled (plain p q params globals n) (plain p q params globals (n + k))

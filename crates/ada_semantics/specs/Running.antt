@@ -29,6 +29,10 @@ next go (goes f) n = go f n
 next go (leaves f) n = gives (leaves f) n
 next go (returns f) n = gives (returns f) n
 
+-- the truth value of a condition
+abbrev pub truth_at : Calls → Ex → Frame → ℕ → Res Bool
+truth_at calls e f n = bind (value_of calls e f n) (λ v m. truth_of v (λ b. gives b m))
+
 -- a condition that must be True, with its check (Ada RM 6.1.1, 11.4.2)
 abbrev pub holds_at : {A : Type 0} → Calls → CheckKind → Ex → Frame → ℕ → (ℕ → Res A) → Res A
 holds_at calls k e f n go = bind (value_of calls e f n) (λ v m. truth_of v (λ b. check b (place_of e) k (go m)))
@@ -161,8 +165,7 @@ turns_over (suc count) x i by body last f n =
 
 abbrev pub looped : Calls → Head → Turn → Frame → ℕ → Res Stop
 looped calls forever body f n = turns_while (suc n) (λ g m. gives true m) body None f n
-looped calls (while e) body f n =
-    turns_while (suc n) (λ g m. bind (value_of calls e g m) (λ v j. truth_of v (λ b. gives b j))) body None f n
+looped calls (while e) body f n = turns_while (suc n) (truth_at calls e) body None f n
 looped calls (for reversed k l h) body f n =
     bind (value_of calls l f n) (λ u m. bind (value_of calls h f m) (λ v j. number_of u (λ lo. number_of v (λ hi.
     pick reversed (turns_over (span lo hi) (turn k) hi (negsuc 0) body None f j) (turns_over (span lo hi) (turn k) lo (pos 1) body None f j)))))
