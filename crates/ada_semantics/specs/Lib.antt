@@ -5,4 +5,5 @@ pub mod Values
 pub mod Targets
 pub mod Running
 pub mod Plain
+pub mod Budget
 pub mod Cases

@@ -22,7 +22,7 @@ use Rattle.typed_units.specs.declared.operators.Relation.TheVariants as relation
 use Rattle.typed_units.specs.declared.checks.CheckKind.{CheckKind}
 use Rattle.typed_units.specs.declared.checks.CheckKind.TheVariants as kind
 use Rattle.typed_units.specs.declared.checks.SiteKey.{SiteKey}
-use Rattle.typed_units.specs.Syntax.{Fit, Op1, first, last, length_at, succ_at, pred_at, same, negation, unary, convert, component, Op2, binary, compare, item}
+use Rattle.typed_units.specs.Syntax.{Fit, Op1, first, last, length_at, succ_at, pred_at, same, negation, unary, convert, Op2, binary, compare, item}
 use Rattle.ada_semantics.specs.Outcome.{Res, gives, fails, short, unset, bind, spend, pick, wanted, site, check}
 use Rattle.ada_semantics.specs.Store.{Slot, empty, full, Slots, no_slots, slot, empties, wholes}
 
@@ -76,7 +76,6 @@ apply1 same q (number x) n = gives (number x) n
 apply1 negation q (truth b) n = gives (truth (not b)) n
 apply1 (unary o s p) q (number x) n = computed (combined o s x (pos 0)) p q n
 apply1 (convert fit) q v n = checked fit q v n
-apply1 (component k) q (record_of vs) n = wanted (val_at vs k) n
 apply1 _ q v n = unset
 
 -- ---- two operands, of which the second's first token stands at q

@@ -13,14 +13,14 @@ use Rattle.ada_semantics.specs.Outcome.{Res, bind, pick, check}
 use Rattle.ada_semantics.specs.Store.{Slot, empty, full_if, whole, Store, Frame, begin, nth}
 use Rattle.ada_semantics.specs.Operators.{truth_of}
 use Rattle.ada_semantics.specs.Values.{Calls, value_of, place_of}
-use Rattle.ada_semantics.specs.Running.{Stop, goes, leaves, returns, next, run_of, holds_at}
+use Rattle.ada_semantics.specs.Running.{Stop, goes, leaves, returns, next, run_of, holds_at, truth_at}
 
--- ---- calls (Ada RM 6.4, SPARK RM 6.1)
+-- ---- calls (Ada RM 6.4, 6.1.1)
 
 -- `Pre` where there is one, which is else True
 abbrev pub condition : Calls → Option Ex → Frame → ℕ → Res Bool
 condition calls None f n = res.gives true n
-condition calls (Some e) f n = bind (value_of calls e f n) (λ v m. truth_of v (λ b. res.gives b m))
+condition calls (Some e) f n = truth_at calls e f n
 
 -- `Post`, with its check, and the variables that the call leaves
 abbrev pub finished : Calls → Option Ex → Frame → ℕ → Res (Option Store)
@@ -53,7 +53,7 @@ abbrev pub calls_within : ℕ → Text → Calls
 calls_within zero p q s n = res.short
 calls_within (suc depth) p q s n = call_of (calls_within depth p) (routine_at p.routines q) s n
 
--- ---- the plain run
+-- ---- the plain run of a subprogram by itself
 
 abbrev pub in_mode : Mode → Bool
 in_mode mode.In = true

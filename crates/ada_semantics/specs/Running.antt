@@ -1,4 +1,4 @@
--- The run of statements: each statement, initial value and turn of a loop takes a unit of the budget.
+-- The run of statements (Ada RM 5): each statement, initial value and turn of a loop takes a unit of the budget.
 use Rattle.std.specs.Prelude.{ℕ, zero, suc, Bool, true, false, not, ◌&&◌, ◌||◌, Option, Some, None, List, [], ◌∷◌, map, ℤ, pos, negsuc, ◌+ℤ◌}
 use Rattle.std.specs.Ordering.{int_eq}
 use Rattle.std.specs.Int.RustNames.{int_lt}
@@ -11,12 +11,13 @@ use Rattle.typed_units.specs.declared.statements.Direction.{Direction}
 use Rattle.typed_units.specs.declared.statements.Direction.TheVariants as direction
 use Rattle.typed_units.specs.Syntax.{Fit, Var, param, turn, answer, Ex, Target, Actual, pass_in, pass_out, pass_in_out, Way, Demand, invariant, variant, Head, forever, while, for, St, st, Ac, skip, assign, invoke, branch, case_of, loop, exit, exit_when, return, give, assert, assume, Sts, done, then, Branches, otherwise, when, Alternatives, no_alternatives, alternative}
 use Rattle.ada_semantics.specs.Outcome.{Res, gives, fails, short, unset, bind, spend, pick, wanted, site, check}
-use Rattle.ada_semantics.specs.Store.{full, whole, Store, Frame, set, enter_loop, entered, with_globals}
+use Rattle.ada_semantics.specs.Store.{full, full_if, whole, put, Store, Frame, set, enter_loop, entered, with_globals}
 use Rattle.ada_semantics.specs.Operators.{span, checked, truth_of, number_of, lies_in}
 use Rattle.ada_semantics.specs.Values.{Calls, value_of, place_of}
 use Rattle.ada_semantics.specs.Targets.{Spot, located, slot_in, write}
 
--- how statements come to an end: they go on, leave the loop around them, or return from the subprogram
+-- how statements come to an end: they go on, leave the loop around them (Ada RM 5.7), or return from the subprogram
+-- (Ada RM 6.5)
 pub data Stop : Type 0 where
   goes : Frame → Stop
   leaves : Frame → Stop
@@ -28,11 +29,15 @@ next go (goes f) n = go f n
 next go (leaves f) n = gives (leaves f) n
 next go (returns f) n = gives (returns f) n
 
--- a condition that must be True, with its check
+-- the truth value of a condition
+abbrev pub truth_at : Calls → Ex → Frame → ℕ → Res Bool
+truth_at calls e f n = bind (value_of calls e f n) (λ v m. truth_of v (λ b. gives b m))
+
+-- a condition that must be True, with its check (Ada RM 6.1.1, 11.4.2)
 abbrev pub holds_at : {A : Type 0} → Calls → CheckKind → Ex → Frame → ℕ → (ℕ → Res A) → Res A
 holds_at calls k e f n go = bind (value_of calls e f n) (λ v m. truth_of v (λ b. check b (place_of e) k (go m)))
 
--- a value with its range check
+-- a value with its range check (Ada RM 3.5, 4.6)
 abbrev pub fitting : Calls → Fit → Ex → Frame → ℕ → Res Val
 fitting calls fit e f n = bind (value_of calls e f n) (λ v m. checked fit (place_of e) v m)
 
@@ -45,8 +50,9 @@ pub record Return : Type 0 where
   pub spots : List Spot
   pub fit : Fit
 
--- an actual that was evaluated: the parameter's value, where it has one, and its way back
+-- an actual that was evaluated: the number of its formal, the parameter's value, where it has one, and its way back
 pub record Passed : Type 0 where
+  pub formal : ℕ
   pub value : Option Val
   pub back : Option Return
 
@@ -54,31 +60,36 @@ abbrev pub return_to : Target → List Spot → Fit → Return
 return_to t spots fit = record { place = t.place; var = t.var; spots = spots; fit = fit }
 
 abbrev pub one_passed : Calls → Actual → Frame → ℕ → Res Passed
-one_passed calls (pass_in fit e) f n = bind (fitting calls fit e f n) (λ v m. gives (record { value = Some v; back = None }) m)
-one_passed calls (pass_out t fit) f n =
-    bind (located calls t f n) (λ ss m. gives (record { value = None; back = Some (return_to t ss fit) }) m)
-one_passed calls (pass_in_out t inward fit) f n =
+one_passed calls (pass_in k fit e) f n = bind (fitting calls fit e f n) (λ v m. gives (record { formal = k; value = Some v; back = None }) m)
+one_passed calls (pass_out k t fit) f n =
+    bind (located calls t f n) (λ ss m. gives (record { formal = k; value = None; back = Some (return_to t ss fit) }) m)
+one_passed calls (pass_in_out k t inward fit) f n =
     bind (located calls t f n) (λ ss m.
     bind (wanted (whole (slot_in ss (f.state t.var))) m) (λ v j.
-    bind (checked inward t.place v j) (λ w k. gives (record { value = Some w; back = Some (return_to t ss fit) }) k)))
+    bind (checked inward t.place v j) (λ w r. gives (record { formal = k; value = Some w; back = Some (return_to t ss fit) }) r)))
 
 -- the actuals, from left to right
 abbrev pub passed : Calls → List Actual → Frame → ℕ → Res (List Passed)
 passed calls [] f n = gives [] n
 passed calls (a ∷ as') f n = bind (one_passed calls a f n) (λ p m. bind (passed calls as' f m) (λ ps j. gives (p ∷ ps) j))
 
--- the copies back from left to right, of the parameters from the k-th on
-abbrev pub copied_back : List Passed → ℕ → Store → Frame → ℕ → Res Stop
-copied_back [] k s f n = gives (goes f) n
-copied_back (p ∷ ps) k s f n = elim p.back [
-    None ↦ copied_back ps (suc k) s f n
-  | Some r ↦ bind (wanted (whole (s (param k))) n) (λ v m. bind (checked r.fit r.place v m) (λ w j.
-      copied_back ps (suc k) s (write f r.var r.spots w) j)) ]
+-- the callee's variables with its parameters
+abbrev pub with_params : List Passed → Store → Store
+with_params [] s = s
+with_params (p ∷ ps) s = with_params ps (put s (param p.formal) (full_if p.value))
+
+-- the copies back from left to right, where the callee left the variables `s`
+abbrev pub copied_back : List Passed → Store → Frame → ℕ → Res Stop
+copied_back [] s f n = gives (goes f) n
+copied_back (p ∷ ps) s f n = elim p.back [
+    None ↦ copied_back ps s f n
+  | Some r ↦ bind (wanted (whole (s (param p.formal))) n) (λ v m. bind (checked r.fit r.place v m) (λ w j.
+      copied_back ps s (write f r.var r.spots w) j)) ]
 
 -- after the subprogram came back
 abbrev pub came_back : Place → List Passed → Frame → Option Store → ℕ → Res Stop
 came_back p ps f None n = fails (site p kind.Pre)
-came_back p ps f (Some s) n = copied_back ps 0 s (record f { state = with_globals f.state s }) n
+came_back p ps f (Some s) n = copied_back ps s (record f { state = with_globals f.state s }) n
 
 -- ---- the group of a loop (SPARK RM 5.5.3)
 
@@ -154,8 +165,7 @@ turns_over (suc count) x i by body last f n =
 
 abbrev pub looped : Calls → Head → Turn → Frame → ℕ → Res Stop
 looped calls forever body f n = turns_while (suc n) (λ g m. gives true m) body None f n
-looped calls (while e) body f n =
-    turns_while (suc n) (λ g m. bind (value_of calls e g m) (λ v j. truth_of v (λ b. gives b j))) body None f n
+looped calls (while e) body f n = turns_while (suc n) (truth_at calls e) body None f n
 looped calls (for reversed k l h) body f n =
     bind (value_of calls l f n) (λ u m. bind (value_of calls h f m) (λ v j. number_of u (λ lo. number_of v (λ hi.
     pick reversed (turns_over (span lo hi) (turn k) hi (negsuc 0) body None f j) (turns_over (span lo hi) (turn k) lo (pos 1) body None f j)))))
@@ -167,22 +177,28 @@ abbrev mutual
   step_of calls (st p a) f n = spend n (λ m. action_of calls p a f m)
 
   pub action_of : Calls → Place → Ac → Frame → ℕ → Res Stop
+  -- Ada RM 5.1, 5.2
   action_of calls p skip f n = gives (goes f) n
   action_of calls p (assign t fit e) f n =
       bind (located calls t f n) (λ ss m. bind (fitting calls fit e f m) (λ v j. gives (goes (write f t.var ss v)) j))
+  -- Ada RM 6.4, 6.4.1
   action_of calls p (invoke q as') f n =
       bind (passed calls as' f n) (λ ps m.
-      bind (calls q (entered f.state (map (λ a. a.value) ps)) m) (λ s j. came_back p ps f s j))
+      bind (calls q (with_params ps (entered f.state)) m) (λ s j. came_back p ps f s j))
+  -- Ada RM 5.3, 5.4
   action_of calls p (branch bs) f n = branch_of calls bs f n
   action_of calls p (case_of e as') f n =
       bind (value_of calls e f n) (λ v m. number_of v (λ x. selected calls as' x f m))
+  -- Ada RM 5.5, 5.7
   action_of calls p (loop k h before group after) f n =
       looped calls h (one_turn (run_of calls before) (λ last g j. demanded calls group last [] g j) (run_of calls after)) (enter_loop f k) n
   action_of calls p exit f n = gives (leaves f) n
   action_of calls p (exit_when e) f n =
       bind (value_of calls e f n) (λ v m. truth_of v (λ b. gives (pick b (leaves f) (goes f)) m))
+  -- Ada RM 6.5
   action_of calls p return f n = gives (returns f) n
   action_of calls p (give fit e) f n = bind (fitting calls fit e f n) (λ v m. gives (returns (set f answer (full v))) m)
+  -- Ada RM 11.4.2, SPARK RM 5.9
   action_of calls p (assert e) f n = holds_at calls kind.Assert e f n (λ m. gives (goes f) m)
   action_of calls p (assume e) f n = holds_at calls kind.Assume e f n (λ m. gives (goes f) m)
 

@@ -1,4 +1,4 @@
--- The variables of a subprogram at work.
+-- The variables of a subprogram at work (Ada RM 3.3.1).
 use Rattle.std.specs.Prelude.{ℕ, zero, suc, Bool, true, false, ◌&&◌, ◌==◌, Option, Some, None, List, [], ◌∷◌}
 use Rattle.ada_values.specs.Value.{Val, number, truth, array, record_of, Vals, no_vals, val, val_at, with_val}
 use Rattle.typed_units.specs.Syntax.{Var, param, local, global, turn, index, answer, Moment, present, entry, loop_entry}
@@ -95,7 +95,8 @@ Store = Var → Slot
 abbrev pub put : Store → Var → Slot → Store
 put s x new = λ y. pick (same_var x y) new (s y)
 
--- a subprogram at work: its variables as they are, as they were at its start, and as they were when each loop was entered
+-- a subprogram at work: its variables as they are, as they were at its start (Ada RM 6.1.1, `'Old`), and as they were when
+-- each loop was entered (SPARK RM 5.5.3.1, `'Loop_Entry`)
 pub record Frame : Type 0 where
   pub state : Store
   pub start : Store
@@ -121,11 +122,10 @@ nth [] k = None
 nth (x ∷ xs) zero = x
 nth (x ∷ xs) (suc k) = nth xs k
 
--- the variables of a subprogram that is called with these parameters: all others but the globals are empty
-abbrev pub entered : Store → List (Option Val) → Store
-entered s vs (param k) = full_if (nth vs k)
-entered s vs (global k) = s (global k)
-entered s vs _ = empty
+-- the variables of a subprogram that is called, before it has its parameters
+abbrev pub entered : Store → Store
+entered s (global k) = s (global k)
+entered s _ = empty
 
 -- the caller's variables after a call that left these
 abbrev pub with_globals : Store → Store → Store

@@ -22,7 +22,8 @@ pub data Var : Type 0 where
   index : ℕ → Var
   answer : Var
 
--- the state that an object is read in: the present one, that on entry to the subprogram, or to the loop of a number
+-- the state that an object is read in: the present one, that on entry to the subprogram (`'Old`, Ada RM 6.1.1), or that
+-- on entry to the loop of a number (`'Loop_Entry`, SPARK RM 5.5.3.1)
 pub data Moment : Type 0 where
   present : Moment
   entry : Moment
@@ -32,7 +33,8 @@ pub data Moment : Type 0 where
 abbrev pub Fit : Type 0
 Fit = Option Bounds
 
--- an operator of one operand; a place is where its check stands
+-- an operator of one operand, which may be an attribute (Ada RM 3.5, 3.6.2) or a conversion (Ada RM 4.6, 4.7); a place is
+-- where its check stands
 pub data Op1 : Type 0 where
   first : Op1
   last : Op1
@@ -43,36 +45,43 @@ pub data Op1 : Type 0 where
   negation : Op1
   unary : Op → Scalar → Place → Op1
   convert : Fit → Op1
-  component : ℕ → Op1
 
--- an operator of two operands; `item` tells whether there is an index check
+-- an operator of two operands (Ada RM 4.5.2 to 4.5.6), or the item of an array (Ada RM 4.1.1), with whether there is an
+-- index check
 pub data Op2 : Type 0 where
   binary : Op → Scalar → Place → Op2
   compare : Relation → Op2
   item : Bool → Op2
 
--- An expression is a node with the place of its first token.
+-- An expression is a node with the place of its first token. -- Ada RM 4
 mutual
   pub data Ex : Type 0 where
     at : Place → Nd → Ex
 
   pub data Nd : Type 0 where
+    -- a static expression (Ada RM 4.9), or a package's constant, by its value
     static : Val → Nd
     read : Moment → Var → Nd
+    -- a component of a record, by its number (Ada RM 4.1.3)
+    component : ℕ → Ex → Nd
     op1 : Op1 → Ex → Nd
     op2 : Op2 → Ex → Ex → Nd
     connect : Connective → Ex → Ex → Nd
-    -- whether a number lies, or doesn't lie, within two bounds
+    -- whether a number lies, or doesn't lie, within two bounds (Ada RM 4.5.2)
     member : Bool → Ex → Ex → Ex → Nd
+    -- a call of the function of that number (Ada RM 6.4)
     call : ℕ → Exs → Nd
+    -- an aggregate, with the numbers of its components (Ada RM 4.3)
     aggregate : Composite → Bounds → Assocs → Nd
+    -- an if-expression (Ada RM 4.5.7)
     choose : Arms → Nd
+    -- the number of the index, its bounds, and the predicate (Ada RM 4.5.8)
     quantified : Quantifier → ℕ → Ex → Ex → Ex → Nd
 
-  -- expressions whose values are checked and passed
+  -- expressions whose values are checked and passed, each for the formal parameter of a number, as they are written
   pub data Exs : Type 0 where
     no_exs : Exs
-    fitted : Fit → Ex → Exs → Exs
+    fitted : ℕ → Fit → Ex → Exs → Exs
 
   -- conditions with what each gives, and what stands after `else`
   pub data Arms : Type 0 where
@@ -90,32 +99,36 @@ pub data Step : Type 0 where
   to_component : ℕ → ℕ → Step
   to_item : Option Bounds → Bool → Ex → Step
 
+-- an object or a part of it that is assigned (Ada RM 5.2)
 pub record Target : Type 0 where
   pub place : Place
   pub var : Var
   pub path : List Step
 
--- what is passed: the check on the way in, and that on the way back
+-- what is passed for the formal parameter of a number: the check on the way in, and that on the way back
 pub data Actual : Type 0 where
-  pass_in : Fit → Ex → Actual
-  pass_out : Target → Fit → Actual
-  pass_in_out : Target → Fit → Fit → Actual
+  pass_in : ℕ → Fit → Ex → Actual
+  pass_out : ℕ → Target → Fit → Actual
+  pass_in_out : ℕ → Target → Fit → Fit → Actual
 
+-- an expression of a loop variant, and where it is to move (SPARK RM 5.5.3)
 pub record Way : Type 0 where
   pub direction : Direction
   pub value : Ex
 
+-- a pragma of a loop's group (SPARK RM 5.5.3)
 pub data Demand : Type 0 where
   invariant : Ex → Demand
   variant : List Way → Demand
 
+-- what makes a loop go on (Ada RM 5.5)
 pub data Head : Type 0 where
   forever : Head
   while : Ex → Head
   -- whether in reverse, the parameter's number, and the bounds
   for : Bool → ℕ → Ex → Ex → Head
 
--- A statement is an action with the place of its first token.
+-- A statement is an action with the place of its first token. -- Ada RM 5
 mutual
   pub data St : Type 0 where
     st : Place → Ac → St
@@ -123,6 +136,7 @@ mutual
   pub data Ac : Type 0 where
     skip : Ac
     assign : Target → Fit → Ex → Ac
+    -- a call of the procedure of that number (Ada RM 6.4)
     invoke : ℕ → List Actual → Ac
     branch : Branches → Ac
     case_of : Ex → Alternatives → Ac
@@ -130,8 +144,10 @@ mutual
     loop : ℕ → Head → Sts → List Demand → Sts → Ac
     exit : Ac
     exit_when : Ex → Ac
+    -- `return` without a value, and with one (Ada RM 6.5)
     return : Ac
     give : Fit → Ex → Ac
+    -- pragmas (Ada RM 11.4.2, SPARK RM 5.9)
     assert : Ex → Ac
     assume : Ex → Ac
 
@@ -147,11 +163,13 @@ mutual
     no_alternatives : Alternatives
     alternative : List Bounds → Bool → Sts → Alternatives → Alternatives
 
+-- a formal parameter (Ada RM 6.1)
 pub record Formal : Type 0 where
   pub mode : Mode
   pub shape : ℕ
 
--- a subprogram; the numbers are those of shapes
+-- A subprogram: its parameters, contracts, variables and statements; the numbers are those of shapes. The opening is the
+-- initial values of the locals as assignments, and the pragmas of the declarative part, in order. -- Ada RM 6
 pub record Routine : Type 0 where
   pub formals : List Formal
   pub result : Option ℕ
@@ -163,6 +181,7 @@ pub record Routine : Type 0 where
   pub opening : Sts
   pub body : Sts
 
+-- a program: the shapes of its types, its global variables by their shapes, and its subprograms
 pub record Text : Type 0 where
   pub shapes : List Shape
   pub globals : List ℕ

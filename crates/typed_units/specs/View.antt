@@ -7,6 +7,7 @@ use Rattle.ada_values.specs.declared.shapes.Shape.TheVariants as shape
 use Rattle.typed_units.specs.declared.operators.Object.{Object}
 use Rattle.typed_units.specs.declared.operators.Object.TheVariants as object
 use Rattle.typed_units.specs.declared.expressions.Fitted.{Fitted}
+use Rattle.typed_units.specs.declared.expressions.Argument.{Argument}
 use Rattle.typed_units.specs.declared.expressions.Arm.{Arm}
 use Rattle.typed_units.specs.declared.expressions.Association.{Association}
 use Rattle.typed_units.specs.declared.expressions.ExprNode.{ExprNode}
@@ -52,9 +53,9 @@ scalar_at [] k = record { lo = pos 1; hi = pos 0; base_lo = pos 1; base_hi = pos
 scalar_at (s ∷ ss) zero = scalar_in s
 scalar_at (s ∷ ss) (suc k) = scalar_at ss k
 
-abbrev pub exs_of : List (Fitted Ex) → Exs
+abbrev pub exs_of : List (Argument (Fitted Ex)) → Exs
 exs_of [] = no_exs
-exs_of (e ∷ es) = fitted e.bounds e.value (exs_of es)
+exs_of (a ∷ as') = fitted a.formal a.value.bounds a.value.value (exs_of as')
 
 abbrev pub arms_of : List (Arm Ex) → Ex → Arms
 arms_of [] e = other e
@@ -85,7 +86,7 @@ node_of s (node.Member is a l h) = member is a l h
 node_of s (node.Convert b a) = op1 (convert b) a
 node_of s (node.Call q as') = call q (exs_of as')
 node_of s (node.Item a i) = op2 (item i.checked) a i.value
-node_of s (node.Component a k) = op1 (component k) a
+node_of s (node.Component a k) = component k a
 node_of s (node.Aggregate c b as') = aggregate c b (assocs_of as')
 node_of s (node.If as' e) = choose (arms_of as' e)
 node_of s (node.Quantified q k l h p) = quantified q k l h p
@@ -104,10 +105,13 @@ step_of shapes (step.Item b c i) = text.to_item b c (expr shapes i)
 abbrev pub target : List Shape → Target → text.Target
 target shapes t = record { place = t.place; var = var t.object; path = map (step_of shapes) t.path }
 
-abbrev pub actual_of : List Shape → Actual → text.Actual
-actual_of shapes (actual.In a) = text.pass_in a.bounds (expr shapes a.value)
-actual_of shapes (actual.Out t b) = text.pass_out (target shapes t) b
-actual_of shapes (actual.InOut t a b) = text.pass_in_out (target shapes t) a b
+abbrev pub passed_for : List Shape → ℕ → Actual → text.Actual
+passed_for shapes k (actual.In a) = text.pass_in k a.bounds (expr shapes a.value)
+passed_for shapes k (actual.Out t b) = text.pass_out k (target shapes t) b
+passed_for shapes k (actual.InOut t a b) = text.pass_in_out k (target shapes t) a b
+
+abbrev pub actual_of : List Shape → Argument Actual → text.Actual
+actual_of shapes a = passed_for shapes a.formal a.value
 
 abbrev pub way_of : List Shape → Way → text.Way
 way_of shapes w = record { direction = w.direction; value = expr shapes w.value }

@@ -19,6 +19,14 @@ pub struct Indexed<E> {
     pub value: E,
 }
 
+/// What is passed for a formal parameter, by the number of the formal. A call has its arguments in the order in which
+/// they are written, which is that of their evaluation (Ada RM 6.4).
+#[derive(Drop)]
+pub struct Argument<A> {
+    pub formal: u32,
+    pub value: A,
+}
+
 /// A condition of an if-expression, and what the expression gives where it is the first that is True.
 #[derive(Drop)]
 pub struct Arm<E> {
@@ -76,7 +84,7 @@ pub enum ExprNode<E> {
     /// A conversion, a qualification or `'Val`. The bounds are those that the operand is checked against.
     Convert(Option<Bounds>, Boxed<E>),
     /// A function call. The precondition's check stands at the expression's first token.
-    Call(u32, Items<Fitted<E>>),
+    Call(u32, Items<Argument<Fitted<E>>>),
     Item(Boxed<E>, Indexed<Boxed<E>>),
     /// A record's component, by its number.
     Component(Boxed<E>, u32),

@@ -8,7 +8,7 @@ mod programs;
 mod statements;
 
 pub use checks::{CheckKind, SiteKey};
-pub use expressions::{Arm, Association, Expr, ExprNode, Fitted, Indexed};
+pub use expressions::{Argument, Arm, Association, Expr, ExprNode, Fitted, Indexed};
 pub use operators::{Bounds, Composite, Connective, Object, Quantifier, Relation};
 pub use programs::{
     Contract, Global, GlobalAspect, GlobalItem, GlobalMode, Inputs, Local, Mode, Param, Program,

@@ -1,6 +1,6 @@
 //! Typed statements.
 
-use crate::expressions::{Expr, Fitted};
+use crate::expressions::{Argument, Expr, Fitted};
 use crate::operators::{Bounds, Object};
 use ada_values::Place;
 use sqlite_items::Items;
@@ -103,7 +103,7 @@ pub enum Action<S> {
     /// An assignment, or the initial value of a local object.
     Assign(Target, Fitted<Expr>),
     /// A procedure call. The precondition's check stands at the statement's first token.
-    Call(u32, Items<Actual>),
+    Call(u32, Items<Argument<Actual>>),
     If(Items<Branch<S>>, Items<S>),
     Case(Expr, Items<Alternative<S>>),
     Loop(LoopParts<S>),

@@ -1,0 +1,6 @@
+pub mod Spent
+pub mod SpentRunning
+pub mod Agreed
+pub mod AgreedRunning
+pub mod Grown
+pub mod GrownRunning
