@@ -2,6 +2,7 @@ pub mod Node
 pub mod Value
 pub mod Meaning
 pub mod View
+pub mod Views
 pub mod Binding
 pub mod Sorting
 pub mod Sorts

@@ -14,6 +14,7 @@ mod same;
 mod sort;
 mod starved;
 mod syntax;
+mod views;
 
 pub use copy_goal::copy_formulas;
 pub use found::TruthFault;
@@ -28,3 +29,4 @@ pub use same::{same_formula, same_term};
 pub use sort::{Sort, SortList};
 pub use starved::Starved;
 pub use syntax::{Formula, FormulaList, Term, TermList};
+pub use views::views_are_injective;
