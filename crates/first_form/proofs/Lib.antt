@@ -1,4 +1,5 @@
 pub mod Different
+pub mod Lines
 pub mod Numbers
 pub mod Searches
 pub mod Steps

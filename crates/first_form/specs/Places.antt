@@ -1,5 +1,5 @@
 -- Where the operands of a form stand in its text, and which parameter a name is.
-use Rattle.std.specs.Prelude.{ℕ, ◌+◌, Bool, false, Option, List, [], ◌∷◌, length, is_none, option_map, Some, None, if◌then◌else◌, position, find}
+use Rattle.std.specs.Prelude.{◌≡◌, ℕ, ◌+◌, ◌==◌, ◌++◌, count_by, Bool, false, Option, List, [], ◌∷◌, length, is_none, option_map, Some, None, if◌then◌else◌, position, find}
 use Rattle.std.specs.List.{flat_map, enumerate_from}
 use Rattle.std.specs.Str.{str_eq_ignore_ascii_case}
 use Rattle.first_form.specs.declared.form.FirstForm.{FirstForm}
@@ -38,6 +38,20 @@ is_unknown params (Name x) = is_none (position_of params x)
 -- the line and the column of the first name in the text that is no parameter
 abbrev pub first_unknown : FirstForm → Option (ℕ × ℕ)
 first_unknown f = option_map (λ o. (o.line, o.column)) (find (λ o. is_unknown f.params o.operand) (operands_of f))
+
+-- how many lines end in a text
+abbrev pub line_ends : List ℕ → ℕ
+line_ends text = count_by (λ c. c == 10) text
+
+-- the operand stands in the text at its line and column: after whole lines, and then the start of its own
+pub record StandsIn (text : List ℕ) (o : Placed) : Type 0 where
+  pub lines : List ℕ
+  pub start : List ℕ
+  pub after : List ℕ
+  pub spelled : text ≡ lines ++ (10 ∷ (start ++ (operand_text o.operand ++ after)))
+  pub same_line : line_ends start ≡ 0
+  pub line_is : o.line ≡ line_ends lines + 2
+  pub column_is : o.column ≡ length start + 1
 
 -- the column of the first name of an assertion that is no parameter
 abbrev pub unknown_column : List (List ℕ) → Assertion → Option ℕ

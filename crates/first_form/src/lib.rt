@@ -12,5 +12,5 @@ mod read;
 mod tests;
 
 pub use form::{Assertion, AssertionList, FirstForm, FormFault, Operand};
-pub use places::{first_unknown, position_of};
+pub use places::{first_unknown, places_are_right, position_of};
 pub use read::{forms_are_unique, read_form};

@@ -57,7 +57,8 @@ fn take_further_params<'a>(
 /// The parameters, of which there is one at least, and what follows them.
 pub fn take_params<'a>(alloc: Global, bytes: &'a [u8]) -> Result<(NameList, &'a [u8]), FormFault>
     ensures ok { IfOk result (λ p. BeginsWithParams bytes.entry.now p.0 p.1.now) }
-    ensures not_built { result ≡ Err FormFault.NotBuilt → BeginsWithNone AreParams params_text bytes.entry.now }
+    ensures not_built { result ≡ Err FormFault.NotBuilt →
+        BeginsWithNone AreParams params_text bytes.entry.now }
 {
     let (first, after_first) = take_param(alloc, bytes)?;
     let (more, rest) = take_further_params(alloc, after_first)?;

@@ -126,7 +126,8 @@ fn is_part_at(word: &[u8], at: usize) -> bool
 
 /// Whether a letter or a digit follows each underscore.
 fn joins_single(word: &[u8]) -> bool
-    ensures { IsTrue result ↔ ((k : ℕ) → slice_index word.now k ≡ 95 → IsTrue (is_ascii_alphanumeric (slice_index word.now (k + 1)))) }
+    ensures { IsTrue result ↔ ((k : ℕ) → slice_index word.now k ≡ 95 →
+        IsTrue (is_ascii_alphanumeric (slice_index word.now (k + 1)))) }
 {
     for (i, byte) in word.iter().enumerate() {
         if *byte == b'_' && !is_part_at(word, i + 1) {

@@ -129,7 +129,8 @@ pub fn take_head(bytes: &[u8]) -> Option<(&[u8], &[u8])>
 /// A parameter, and what follows it.
 pub fn take_param<'a>(alloc: Global, bytes: &'a [u8]) -> Result<(NameText, &'a [u8]), FormFault>
     ensures ok { IfOk result (λ p. BeginsWith IsName param_text bytes.entry.now p.0 p.1.now) }
-    ensures not_built { result ≡ Err FormFault.NotBuilt → BeginsWithNone IsName param_text bytes.entry.now }
+    ensures not_built { result ≡ Err FormFault.NotBuilt →
+        BeginsWithNone IsName param_text bytes.entry.now }
 {
     let Some((name, after_name)) = take_name(bytes) else {
         return Err(FormFault::NotBuilt);
@@ -146,8 +147,10 @@ pub fn take_further_param<'a>(
     alloc: Global,
     bytes: &'a [u8],
 ) -> Result<(NameText, &'a [u8]), FormFault>
-    ensures ok { IfOk result (λ p. BeginsWith IsName further_param_text bytes.entry.now p.0 p.1.now) }
-    ensures not_built { result ≡ Err FormFault.NotBuilt → BeginsWithNone IsName further_param_text bytes.entry.now }
+    ensures ok { IfOk result (λ p.
+        BeginsWith IsName further_param_text bytes.entry.now p.0 p.1.now) }
+    ensures not_built { result ≡ Err FormFault.NotBuilt →
+        BeginsWithNone IsName further_param_text bytes.entry.now }
 {
     let Some(after) = take_piece(bytes, b"; ") else {
         return Err(FormFault::NotBuilt);

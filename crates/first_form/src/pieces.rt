@@ -10,7 +10,9 @@ const GREATEST: u32 = 2_147_483_647;
 
 /// What follows a fixed piece.
 pub fn take_piece<'a>(bytes: &'a [u8], piece: &[u8]) -> Option<&'a [u8]>
-    ensures { MatchOption result ((rest : List ℕ) → bytes.entry.now ≡ piece.now ++ rest → ⊥) (λ rest. bytes.entry.now ≡ piece.now ++ rest.now) }
+    ensures { MatchOption result
+        ((rest : List ℕ) → bytes.entry.now ≡ piece.now ++ rest → ⊥)
+        (λ rest. bytes.entry.now ≡ piece.now ++ rest.now) }
 {
     bytes.strip_prefix(piece)
 }
@@ -38,7 +40,9 @@ pub fn split_word(bytes: &[u8]) -> (&[u8], &[u8])
 
 /// The number that a word writes in decimal digits without a leading zero, if it is at most 2147483647.
 pub fn number_of(word: &[u8]) -> Option<u32>
-    ensures { MatchOption result ((n : ℕ) → n ≤ 2147483647 → word.now ≡ decimal n → ⊥) (λ n. (n ≤ 2147483647) × (word.now ≡ decimal n)) }
+    ensures { MatchOption result
+        ((n : ℕ) → n ≤ 2147483647 → word.now ≡ decimal n → ⊥)
+        (λ n. (n ≤ 2147483647) × (word.now ≡ decimal n)) }
 {
     if !is_plain(word) {
         return None;
@@ -54,7 +58,8 @@ pub fn number_of(word: &[u8]) -> Option<u32>
 
 /// Whether a digit stands first, and no zero before further bytes.
 fn is_plain(word: &[u8]) -> bool
-    ensures { IsTrue result ↔ (IsTrue (is_ascii_digit (slice_index word.now 0)) × (slice_index word.now 0 ≡ 48 → length word.now ≡ 1)) }
+    ensures { IsTrue result ↔ (IsTrue (is_ascii_digit (slice_index word.now 0))
+        × (slice_index word.now 0 ≡ 48 → length word.now ≡ 1)) }
 {
     match word {
         [] => false,

@@ -1,10 +1,11 @@
 //! Which parameter a name is, and where a name stands that is none.
 
-ghost use Rattle.std.specs.Prelude.{◌≡◌, ◌^◌, ◌<◌, ◌≤◌, length};
+ghost use Rattle.std.specs.Prelude.{◌≡◌, All, ◌^◌, ◌<◌, ◌≤◌, length};
 ghost use Rattle.std.specs.Fmt.{decimal};
 ghost use Rattle.std.specs.Str.{str_eq_ignore_ascii_case};
-ghost use Rattle.first_form.specs.Form.{IsForm, operand_text, relation_text};
-ghost use Rattle.first_form.specs.Places.{first_unknown, is_unknown, position_of, right_column, unknown_column};
+ghost use Rattle.first_form.specs.Form.{IsForm, operand_text, relation_text, text_of};
+ghost use Rattle.first_form.specs.declared.form.FirstForm.{FirstForm};
+ghost use Rattle.first_form.specs.Places.{StandsIn, first_unknown, is_unknown, operands_of, position_of, right_column, unknown_column};
 
 use crate::form::{Assertion, FirstForm, Operand};
 use ada_values::{NameList, NameText};
@@ -118,3 +119,8 @@ fn digit_count(number: u32) -> u32
     }
     count
 }
+
+/// Each operand of a form stands in the form's text at the line and the column that its place says.
+pub fn places_are_right()
+    ensures { (f : FirstForm) → IsForm f → All (StandsIn (text_of f)) (operands_of f) }
+{}
