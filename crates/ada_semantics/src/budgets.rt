@@ -1,6 +1,6 @@
 //! Budgets.
 
-ghost use Rattle.ada_semantics.specs.Budget.{ValuesTake, RunsTake, ProgramsTake, AnyDepth, MoreForCalls, MoreForRuns};
+ghost use Rattle.ada_semantics.specs.Budget.{ValuesTake, RunsTake, ProgramsTake, AnyDepth, MoreForCalls, MoreForRuns, OneAnswer, OneOutcome};
 
 /// An expression takes a unit at least, where no call leaves more than it was given.
 pub fn values_take()
@@ -30,4 +30,14 @@ pub fn more_for_calls()
 /// A run that doesn't spend its budget comes to the same with more.
 pub fn more_for_runs()
     ensures { MoreForRuns }
+{}
+
+/// A call has one answer, whatever its budget, unless that is spent.
+pub fn one_answer()
+    ensures { OneAnswer }
+{}
+
+/// A run has one outcome, whatever its budget, unless that is spent.
+pub fn one_outcome()
+    ensures { OneOutcome }
 {}
