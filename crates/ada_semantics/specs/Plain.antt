@@ -1,6 +1,8 @@
 -- Calls, and the plain run of a subprogram.
-use Rattle.std.specs.Prelude.{ℕ, zero, suc, Bool, true, false, Option, Some, None, List, [], ◌∷◌, map}
+use Rattle.std.specs.Prelude.{ℕ, zero, suc, Bool, true, false, ◌&&◌, Option, Some, None, List, [], ◌∷◌, map}
 use Rattle.ada_values.specs.Value.{Val}
+use Rattle.ada_values.specs.Shapes.{in_shape}
+use Rattle.ada_values.specs.declared.shapes.Shape.{Shape}
 use Rattle.typed_units.specs.declared.checks.CheckKind.TheVariants as kind
 use Rattle.typed_units.specs.declared.checks.SiteKey.{SiteKey}
 use Rattle.typed_units.specs.declared.programs.Mode.{Mode}
@@ -118,3 +120,25 @@ plain_run p (Some r) params globals n =
 -- unit, so with n units no more than n calls lie within one another.
 abbrev pub plain : Text → ℕ → List Val → List Val → ℕ → Plain
 plain p q params globals n = plain_run p (routine_at p.routines q) params globals n
+
+-- ---- inputs
+
+abbrev pub param_fits : List Shape → Formal → Option Val → Bool
+param_fits shapes p None = false
+param_fits shapes p (Some v) = in_shape shapes p.shape v
+
+-- the parameters of a run: a value in its subtype for each but the `out` parameters, in order
+abbrev pub params_fit : List Shape → List Formal → List Val → Bool
+params_fit shapes [] [] = true
+params_fit shapes [] (v ∷ vs) = false
+params_fit shapes (p ∷ ps) vs =
+    pick (in_mode p.mode) (param_fits shapes p (first_of vs) && params_fit shapes ps (rest_of vs)) (params_fit shapes ps vs)
+
+abbrev pub globals_fit : List Shape → List ℕ → List Val → Bool
+globals_fit shapes [] [] = true
+globals_fit shapes (g ∷ gs) (v ∷ vs) = in_shape shapes g v && globals_fit shapes gs vs
+globals_fit shapes _ _ = false
+
+-- the inputs are in their shapes
+abbrev pub inputs_fit : Text → Routine → List Val → List Val → Bool
+inputs_fit p r params globals = params_fit p.shapes r.formals params && globals_fit p.shapes p.globals globals

@@ -1,9 +1,9 @@
 -- What an operation gives, in whole numbers. -- Ada RM 4.5.3 to 4.5.6
-use Rattle.std.specs.Prelude.{ℕ, suc, ◌&&◌, if◌then◌else◌, Option, Some, None, Result, Ok, Err, ℤ, pos, negsuc, neg_ℤ, ◌+ℤ◌, ◌-ℤ◌, ◌*ℤ◌}
+use Rattle.std.specs.Prelude.{◌≡◌, suc, if◌then◌else◌, Option, Some, None, Result, Ok, Err, ℤ, pos, negsuc, neg_ℤ, ◌+ℤ◌, ◌-ℤ◌, ◌*ℤ◌}
 use Rattle.std.specs.Int.{int_pow, int_rem_euclid}
 use Rattle.std.specs.Int.RustNames.{int_div, int_rem, unsigned_abs}
 use Rattle.std.specs.Ordering.{int_eq}
-use Rattle.ada_values.specs.Scalars.{within}
+use Rattle.ada_values.specs.Scalars.{within, IsScalar, InBase}
 use Rattle.ada_values.specs.declared.scalars.Scalar.{Scalar}
 use Rattle.ada_values.specs.declared.scalars.Op.{Op}
 use Rattle.ada_values.specs.declared.scalars.Op.TheVariants.{Add, Sub, Mul, Quo, Rem, Mod, Pow, Neg, Abs}
@@ -45,3 +45,7 @@ settled (Some n) lo hi r = wrapped n r
 -- what the operation gives in the scalar's type
 abbrev pub combined : Op → Scalar → ℤ → ℤ → Result ℤ OpFault
 combined op s a b = settled s.modulus s.base_lo s.base_hi (exact op a b)
+
+-- a result lies in the base range
+abbrev pub ResultLaw : Type 0
+ResultLaw = (op : Op) (s : Scalar) (a b v : ℤ) → IsScalar s → combined op s a b ≡ Ok v → InBase s v

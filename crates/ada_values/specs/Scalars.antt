@@ -3,7 +3,7 @@ use Rattle.std.specs.Prelude.{◌≡◌, Bool, ◌&&◌, Option, Some, None, ℤ
 use Rattle.std.specs.Int.RustNames.{int_le}
 use Rattle.ada_values.specs.declared.scalars.Scalar.{Scalar}
 use Rattle.ada_values.specs.declared.scalars.Op.{Op}
-use Rattle.ada_values.specs.declared.scalars.Op.TheVariants.{Add, Sub, Mul, Quo, Rem, Mod, Pow, Neg, Abs}
+use Rattle.ada_values.specs.declared.scalars.Op.TheVariants.{Pow}
 
 abbrev pub within : ℤ → ℤ → ℤ → Bool
 within lo hi v = int_le lo v && int_le v hi
@@ -23,10 +23,13 @@ HasModulus (Some n) lo hi = (pos 2 ≤ℤ n) × (n ≤ℤ pos 4294967296) × (lo
 abbrev pub IsScalar : Scalar → Type 0
 IsScalar s = HasModulus s.modulus s.base_lo s.base_hi
 
+abbrev pub IsBetween : ℤ → ℤ → ℤ → Type 0
+IsBetween lo hi v = (lo ≤ℤ v) × (v ≤ℤ hi)
+
 abbrev pub InBase : Scalar → ℤ → Type 0
-InBase s v = (s.base_lo ≤ℤ v) × (v ≤ℤ s.base_hi)
+InBase s v = IsBetween s.base_lo s.base_hi v
 
 -- an exponent is an Integer, and any other right operand lies in the base range -- Ada RM 4.5.6
-abbrev pub IsRight : Op → Scalar → ℤ → Type 0
-IsRight Pow s b = (negsuc 2147483647 ≤ℤ b) × (b ≤ℤ pos 2147483647)
-IsRight _ s b = InBase s b
+abbrev pub IsRight : Op → ℤ → ℤ → ℤ → Type 0
+IsRight Pow lo hi b = IsBetween (negsuc 2147483647) (pos 2147483647) b
+IsRight _ lo hi b = IsBetween lo hi b

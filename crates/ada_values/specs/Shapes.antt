@@ -1,10 +1,9 @@
 -- Which values a shape has. -- Ada RM 3.2, 3.5, 3.6, 3.8
-use Rattle.std.specs.Prelude.{◌≡◌, ℕ, zero, suc, Bool, true, false, ◌&&◌, ◌||◌, ◌==◌, ℤ, pos, negsuc, ◌-ℤ◌, Option, Some, None, List, [], ◌∷◌, int_lt, slice_get}
+use Rattle.std.specs.Prelude.{ℕ, zero, suc, Bool, true, false, ◌&&◌, ◌||◌, ◌==◌, ℤ, pos, negsuc, ◌-ℤ◌, Option, Some, None, List, [], ◌∷◌, int_lt, slice_get}
 use Rattle.std.specs.Ordering.{int_eq}
 use Rattle.ada_values.specs.Scalars.{in_scalar, in_base}
 use Rattle.ada_values.specs.Value.{Val, number, truth, array, record_of, Vals, no_vals, val, length_of}
 use Rattle.ada_values.specs.declared.scalars.Scalar.{Scalar}
-use Rattle.ada_values.specs.declared.shapes.ArrayShape.{ArrayShape}
 use Rattle.ada_values.specs.declared.shapes.Shape.{Shape}
 use Rattle.ada_values.specs.declared.shapes.Shape.TheVariants.{Number, Truth, Array, Record}
 

@@ -1,5 +1,5 @@
 -- Values, as definitions speak of them.
-use Rattle.std.specs.Prelude.{ℕ, zero, suc, Bool, true, false, not, ◌&&◌, ℤ, Option, Some, None, List, [], ◌∷◌}
+use Rattle.std.specs.Prelude.{ℕ, zero, suc, Bool, true, false, not, ◌&&◌, ℤ, Option, Some, None, List, [], ◌∷◌, map}
 use Rattle.std.specs.Ordering.{int_eq}
 use Rattle.ada_values.specs.declared.values.Value.{Value, fold-Value}
 use Rattle.ada_values.specs.declared.values.Value.TheOpen.{Value-F}
@@ -49,6 +49,9 @@ value_step (Value-F.Rec vs) = record_of (vals_of vs)
 -- the value that the code's value is
 abbrev pub value : Value → Val
 value = fold-Value Val value_step
+
+abbrev pub values : List Value → Vals
+values vs = vals_of (map value vs)
 
 abbrev pub same_truth : Bool → Bool → Bool
 same_truth true b = b

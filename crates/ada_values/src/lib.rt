@@ -2,13 +2,18 @@
 #![tactic(auto)]
 
 mod names;
+mod operations;
 mod place;
 mod scalars;
 mod shapes;
 mod values;
 
 pub use names::{ByteList, NameList, NameText, WordList};
+pub use operations::{combine, operation_laws};
 pub use place::Place;
-pub use scalars::{Op, OpFault, Scalar};
-pub use shapes::{ArrayShape, Shape, ShapeIds, ShapeList};
-pub use values::{ArrayValue, FieldList, ItemList, Value};
+pub use scalars::{Op, OpFault, Scalar, in_scalar};
+pub use shapes::{ArrayShape, Shape, ShapeIds, ShapeList, in_shape, part_laws};
+pub use values::{ArrayValue, FieldList, ItemList, Value, same_value};
+
+#[cfg(test)]
+mod tests;

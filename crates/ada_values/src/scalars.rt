@@ -1,5 +1,8 @@
 //! Scalar types and the operations on their values.
 
+ghost use Rattle.std.specs.Prelude.{◌≡◌};
+ghost use Rattle.ada_values.specs.Scalars.{in_scalar};
+
 /// An arithmetic operation of the language (Ada RM 4.5.3 to 4.5.6).
 #[derive(Clone, Copy, Debug, PartialEq, Eq)]
 pub enum Op {
@@ -36,4 +39,11 @@ pub struct Scalar {
     pub base_lo: i128,
     pub base_hi: i128,
     pub modulus: Option<i128>,
+}
+
+/// Whether the value belongs to the subtype.
+pub fn in_scalar(s: &Scalar, v: i128) -> bool
+    ensures { result ≡ in_scalar s.now v }
+{
+    s.lo <= v && v <= s.hi
 }

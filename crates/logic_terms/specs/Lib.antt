@@ -8,3 +8,7 @@ pub mod Sorts
 pub mod Goal
 pub mod Goals
 pub mod Same
+pub mod Run
+pub mod Found
+pub mod Names
+pub mod Arrays

@@ -1,0 +1,4 @@
+pub mod Form
+pub mod Identifiers
+pub mod Places
+pub mod Reads

@@ -1,0 +1,55 @@
+//! The form of a file, and why a file has none.
+
+ghost use Rattle.std.specs.Prelude.{◌≡◌};
+
+use ada_values::{NameList, NameText};
+use sqlite_items::Items;
+use std::alloc::AllocError;
+use typed_units::Relation;
+
+/// A side of an assertion.
+#[derive(Debug, Drop)]
+pub enum Operand {
+    /// A number from 0 to 2147483647.
+    Number(u32),
+    /// A name as it is written.
+    Name(NameText),
+}
+
+/// `pragma Assert (LEFT RELATION RIGHT);`
+#[derive(Debug, Drop)]
+pub struct Assertion {
+    pub left: Operand,
+    pub relation: Relation,
+    pub right: Operand,
+}
+
+/// Assertions in the order of their lines.
+pub type AssertionList = Items<Assertion>;
+
+/// A procedure with `in` parameters of type Integer whose statements are assertions.
+#[derive(Debug, Drop)]
+pub struct FirstForm {
+    pub name: NameText,
+    pub params: NameList,
+    pub assertions: AssertionList,
+}
+
+/// Why no form was read.
+#[derive(Clone, Copy, Debug, PartialEq, Eq)]
+pub enum FormFault {
+    /// The file isn't of the form.
+    NotBuilt,
+    /// Memory was refused.
+    Starved,
+}
+
+impl From<AllocError> for FormFault {
+    ghost use Rattle.first_form.specs.declared.form.FormFault.TheVariants.{Starved};
+
+    ghost from_gives = { λ _ fault. fault ≡ Starved };
+
+    fn from(_error: AllocError) -> FormFault {
+        FormFault::Starved
+    }
+}

@@ -1,0 +1,4 @@
+pub mod Causes
+pub mod Doubles
+pub mod Maps
+pub mod Pieces

@@ -1,0 +1,10 @@
+pub mod Ranged
+pub mod Substitution
+pub mod Lists
+pub mod Rules
+pub mod Sorted
+pub mod SameNodes
+pub mod Items
+pub mod Powers
+pub mod Whole
+pub mod Steps

@@ -1,0 +1,7 @@
+use Rattle.std.proofs.Common.{◌≡◌, drop}
+use Rattle.logic_terms.specs.View.{terms}
+use Rattle.logic_terms.specs.Names.{name_nothing}
+use Rattle.logic_terms.proofs.names.+names.Given as goal
+
+abbrev pub invariant-terms_name_nothing-loop-t : goal.invariant-terms_name_nothing-loop-t
+invariant-terms_name_nothing-loop-t l = name_nothing (terms l.ts) ≡ name_nothing (terms (drop l.t-index l.t-items))

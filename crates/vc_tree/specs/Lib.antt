@@ -1,0 +1,4 @@
+pub mod Tree
+pub mod Goals
+pub mod Rules
+pub mod Sound
