@@ -1,15 +1,15 @@
 -- Where two ways of calling agree below a budget, evaluations agree up to it.
-use Rattle.std.proofs.Common.{◌≡◌, ℕ, zero, suc, ◌≤◌, ◌<◌, arith, refl, ap, ◌∙◌, List, [], ◌∷◌, Bool, true, false, Option, Some, None, ℤ, pos, ◌+ℤ◌}
+use Rattle.std.proofs.Common.{◌≡◌, ℕ, zero, suc, ◌≤◌, ◌<◌, arith, refl, ap, ◌∙◌, Bool, true, false, ℤ, pos, ◌+ℤ◌}
 use Rattle.ada_values.specs.Value.{Val, number, truth, array, record_of}
 use Rattle.ada_values.specs.declared.place.Place.{Place}
 use Rattle.typed_units.specs.declared.checks.CheckKind.{CheckKind}
 use Rattle.typed_units.specs.declared.operators.Quantifier.{Quantifier}
-use Rattle.typed_units.specs.Syntax.{Var, param, index, Ex, at, Nd, static, read, component, op1, op2, connect, member, call, aggregate, choose, quantified, Exs, no_exs, fitted, Arms, other, arm, Assocs, no_assocs, assoc}
-use Rattle.ada_semantics.specs.Outcome.{Res, gives, fails, short, unset, bind, spend, pick, wanted, check}
-use Rattle.ada_semantics.specs.Operators.{checked, truth_of, number_of, quantify, decides, span, stops_at, claims_any, fill}
-use Rattle.ada_semantics.specs.Store.{Slot, full, Slots, empties, wholes, component_slot, Store, put, Frame, set, entered}
+use Rattle.typed_units.specs.Syntax.{param, index, Ex, at, Nd, static, read, component, op1, op2, connect, member, call, aggregate, choose, quantified, Exs, no_exs, fitted, Arms, other, arm, Assocs, no_assocs, assoc}
+use Rattle.ada_semantics.specs.Outcome.{Res, gives, fails, short, unset, bind, spend, pick, check}
+use Rattle.ada_semantics.specs.Operators.{truth_of, number_of, quantify, decides, span, stops_at, claims_any, fill}
+use Rattle.ada_semantics.specs.Store.{full, Slots, empties, wholes, component_slot, Store, put, Frame, set, entered}
 use Rattle.ada_semantics.specs.Values.{Calls, place_of, value_of, node_value, slot_of, values_of, chosen, associated}
-use Rattle.ada_semantics.specs.Budget.{Left, CallsTake}
+use Rattle.ada_semantics.specs.Budget.{Left}
 use Rattle.ada_semantics.proofs.Spent.{Keeps, given, failing, nothing, wants, checks, apply1_left, apply2_left, member_left, result_left}
 
 pub record Agrees {A : Type 0} (n : ℕ) (r t : Res A) : Type 0 where
@@ -96,7 +96,7 @@ module _ (calls others : Calls) (k : ℕ) (agree : (q : ℕ) (s : Store) (n : �
         binds n _ _ _ _ (value_agrees a f n (weak lt)) (λ u m le. binds m _ _ _ _ (value_agrees b f m (weak (below le lt))) (λ v j le'. alike (apply2_left o (place_of b) u v j)))
     node_agrees p (connect c a b) f n lt =
         binds n _ _ _ _ (value_agrees a f n (weak lt)) (λ u m le. on_truth u m _ _ (λ x. picks (stops_at c x) m _ _ _ _ (alike (given _ m))
-          (binds m _ _ _ _ (value_agrees b f m (weak (below le lt))) (λ v j le'. on_truth v j _ _ (λ y. alike (given _ j))))))
+        (binds m _ _ _ _ (value_agrees b f m (weak (below le lt))) (λ v j le'. on_truth v j _ _ (λ y. alike (given _ j))))))
     node_agrees p (member is a l h) f n lt =
         binds n _ _ _ _ (value_agrees a f n (weak lt)) (λ u m le. binds m _ _ _ _ (value_agrees l f m (weak (below le lt))) (λ v j le'.
         binds j _ _ _ _ (value_agrees h f j (weak (below le' (below le lt)))) (λ w r le''. alike (member_left is u v w r))))
@@ -109,7 +109,7 @@ module _ (calls others : Calls) (k : ℕ) (agree : (q : ℕ) (s : Store) (n : �
     node_agrees p (quantified q i l h e) f n lt =
         binds n _ _ _ _ (value_agrees l f n (weak lt)) (λ u m le. binds m _ _ _ _ (value_agrees h f m (weak (below le lt))) (λ v j le'.
         on_number u j _ _ (λ lo. on_number v j _ _ (λ hi. quantifies (span lo hi) q lo _ _ j
-          (λ x r le''. value_agrees e (set f (index i) (full (number x))) r (weak (below le'' (below le' (below le lt)))))))))
+        (λ x r le''. value_agrees e (set f (index i) (full (number x))) r (weak (below le'' (below le' (below le lt)))))))))
 
     slot_agrees : (e : Ex) (f : Frame) (n : ℕ) → n ≤ k → Agrees n (slot_of calls e f n) (slot_of others e f n)
     slot_agrees (at p (read w x)) f n le = spends n _ _ (λ m lt. alike (given _ m))
@@ -131,6 +131,6 @@ module _ (calls others : Calls) (k : ℕ) (agree : (q : ℕ) (s : Store) (n : �
     associated_agree no_assocs x ss f n le = alike (given _ n)
     associated_agree (assoc ranges is_others fit e es) x ss f n le =
         picks (claims_any ranges is_others x ss) n _ _ _ _
-          (binds n _ _ _ _ (value_agrees e f n le) (λ v m h. binds m _ _ _ _ (alike (checks fit (place_of e) v m)) (λ w j h'.
-           associated_agree es x (fill ranges is_others x w ss) f j (still h' (still h le)))))
-          (associated_agree es x ss f n le)
+        (binds n _ _ _ _ (value_agrees e f n le) (λ v m h. binds m _ _ _ _ (alike (checks fit (place_of e) v m)) (λ w j h'.
+        associated_agree es x (fill ranges is_others x w ss) f j (still h' (still h le)))))
+        (associated_agree es x ss f n le)

@@ -1,20 +1,20 @@
 -- Where two ways of calling agree below a budget, runs agree up to it; so the depth of calls that is allowed is no limit.
-use Rattle.std.proofs.Common.{◌≡◌, ℕ, zero, suc, ◌≤◌, ◌<◌, arith, refl, List, [], ◌∷◌, Bool, true, false, ◌||◌, Option, Some, None, ℤ, pos, negsuc, ◌+ℤ◌}
-use Rattle.ada_values.specs.Value.{Val, number, truth, array, record_of}
+use Rattle.std.proofs.Common.{ℕ, zero, suc, ◌≤◌, ◌<◌, arith, List, [], ◌∷◌, Bool, true, ◌||◌, Option, Some, None, ℤ, pos, negsuc, ◌+ℤ◌}
+use Rattle.ada_values.specs.Value.{number}
 use Rattle.ada_values.specs.declared.place.Place.{Place}
 use Rattle.typed_units.specs.declared.checks.CheckKind.{CheckKind}
 use Rattle.typed_units.specs.declared.checks.CheckKind.TheVariants as kind
-use Rattle.typed_units.specs.Syntax.{Fit, Var, param, turn, answer, Ex, Step, to_component, to_item, Target, Actual, pass_in, pass_out, pass_in_out, Way, Demand, invariant, variant, Head, forever, while, for, St, st, Ac, skip, assign, invoke, branch, case_of, loop, exit, exit_when, return, give, assert, assume, Sts, done, then, Branches, otherwise, when, Alternatives, no_alternatives, alternative, Routine, Text}
-use Rattle.ada_semantics.specs.Outcome.{Res, gives, bind, spend, pick, wanted, check}
+use Rattle.typed_units.specs.Syntax.{Fit, Var, turn, Ex, Step, to_component, to_item, Target, Actual, pass_in, pass_out, pass_in_out, Way, Demand, invariant, variant, Head, forever, while, for, St, st, Ac, skip, assign, invoke, branch, case_of, loop, exit, exit_when, return, give, assert, assume, Sts, done, then, Branches, otherwise, when, Alternatives, no_alternatives, alternative, Routine, Text}
+use Rattle.ada_semantics.specs.Outcome.{Res, gives}
 use Rattle.ada_semantics.specs.Store.{Slot, full, whole, component_slot, item_slot, Store, Frame, set, enter_loop, entered, begin}
-use Rattle.ada_semantics.specs.Operators.{span, checked, lies_in}
+use Rattle.ada_semantics.specs.Operators.{span, lies_in}
 use Rattle.ada_semantics.specs.Values.{Calls, place_of, value_of}
-use Rattle.ada_semantics.specs.Targets.{Spot, bounds_of, spots_of, reaches, located, slot_in}
+use Rattle.ada_semantics.specs.Targets.{bounds_of, spots_of, reaches, located, slot_in}
 use Rattle.ada_semantics.specs.Running.{Stop, goes, leaves, returns, next, holds_at, fitting, one_passed, passed, with_params, numbers_of, variant_check, demanded, moved_since, invariant_kind, Round, again, over, in_loop, Turn, one_turn, after_round, turns_while, turns_over, looped, step_of, action_of, run_of, branch_of, selected}
 use Rattle.ada_semantics.specs.Plain.{condition, finished, ended, one_call, routine_at, call_of, calls_within}
 use Rattle.ada_semantics.specs.Budget.{AnyDepth}
 use Rattle.ada_semantics.proofs.Spent.{given, nothing, running_out, wants, checks}
-use Rattle.ada_semantics.proofs.SpentRunning.{position_left, came_left, programs_take}
+use Rattle.ada_semantics.proofs.SpentRunning.{position_left, came_left}
 use Rattle.ada_semantics.proofs.Agreed.{Agrees, alike, below, lower, still, weak, binds, spends, picks, passes, on_truth, on_number, value_agrees}
 
 -- ---- what follows a part, by how the rest agrees up to a budget
@@ -113,7 +113,7 @@ module _ (calls others : Calls) (k : ℕ) (agree : (q : ℕ) (s : Store) (n : �
       AlikeTurns (one_turn before (λ last g j. demanded calls group last [] g j) after) (one_turn tried (λ last g j. demanded others group last [] g j) later) k
   turn_agrees before tried group after later w v l f n le = spends n _ _ (λ m lt. binds m _ _ _ _ (w f m (weak (lower lt le))) (λ s x h.
       in_loop_agrees _ _ k (λ g j h2. binds j _ _ _ _ (demanded_agree group l [] g j h2) (λ xs r h3.
-        binds r _ _ _ _ (v g r (still h3 h2)) (λ t y h4. in_loop_agrees _ _ k (λ i z h5. alike (given (again xs i) z)) t y (still h4 (still h3 h2)))))
+      binds r _ _ _ _ (v g r (still h3 h2)) (λ t y h4. in_loop_agrees _ _ k (λ i z h5. alike (given (again xs i) z)) t y (still h4 (still h3 h2)))))
       s x (still h (weak (lower lt le)))))
 
   looped_agrees : (h : Head) (body other : Turn) → AlikeTurns body other k → (f : Frame) (n : ℕ) → n ≤ k → Agrees n (looped calls h body f n) (looped others h other f n)
@@ -121,8 +121,8 @@ module _ (calls others : Calls) (k : ℕ) (agree : (q : ℕ) (s : Store) (n : �
   looped_agrees (while e) body other w f n le = while_agrees (suc n) _ _ body other k (λ g m h. binds m _ _ _ _ (value e g m h) (λ v j h2. on_truth v j _ _ (λ b. alike (given b j)))) w None f n le
   looped_agrees (for reversed i l h) body other w f n le = binds n _ _ _ _ (value l f n le) (λ u m h2. binds m _ _ _ _ (value h f m (still h2 le)) (λ v j h3.
       on_number u j _ _ (λ lo. on_number v j _ _ (λ hi. picks reversed j _ _ _ _
-        (over_agrees (span lo hi) (turn i) hi (negsuc 0) body other k w None f j (still h3 (still h2 le)))
-        (over_agrees (span lo hi) (turn i) lo (pos 1) body other k w None f j (still h3 (still h2 le)))))))
+      (over_agrees (span lo hi) (turn i) hi (negsuc 0) body other k w None f j (still h3 (still h2 le)))
+      (over_agrees (span lo hi) (turn i) lo (pos 1) body other k w None f j (still h3 (still h2 le)))))))
 
   -- ---- statements
 
@@ -139,7 +139,7 @@ module _ (calls others : Calls) (k : ℕ) (agree : (q : ℕ) (s : Store) (n : �
     action_agrees p (case_of e as') f n lt = binds n _ _ _ _ (value e f n (weak lt)) (λ v m h. on_number v m _ _ (λ x. selected_agrees as' x f m (weak (below h lt))))
     action_agrees p (loop i h before group after) f n lt =
         looped_agrees h _ _ (turn_agrees (run_of calls before) (run_of others before) group (run_of calls after) (run_of others after)
-          (λ g m le. run_agrees before g m le) (λ g m le. run_agrees after g m le)) (enter_loop f i) n (weak lt)
+        (λ g m le. run_agrees before g m le) (λ g m le. run_agrees after g m le)) (enter_loop f i) n (weak lt)
     action_agrees p exit f n lt = alike (given _ n)
     action_agrees p (exit_when e) f n lt = binds n _ _ _ _ (value e f n (weak lt)) (λ v m h. on_truth v m _ _ (λ b. alike (given _ m)))
     action_agrees p return f n lt = alike (given _ n)
@@ -178,8 +178,8 @@ module _ (calls others : Calls) (k : ℕ) (agree : (q : ℕ) (s : Store) (n : �
   pub one_call_agrees : (r : Routine) (s : Store) (n : ℕ) → n ≤ k → Agrees n (one_call calls r s n) (one_call others r s n)
   one_call_agrees r s n le = binds n _ _ _ _ (condition_agrees r.pre (begin s) n le) (λ b m h. picks b m _ _ _ _
       (binds m _ _ _ _
-        (binds m _ _ _ _ (run_agrees r.opening (begin s) m (still h le)) (λ t j h2. next_agrees (run_of calls r.body) (run_of others r.body) k (λ g i h3. run_agrees r.body g i h3) t j (still h2 (still h le))))
-        (λ t j h2. ended_agrees r.post t j (still h2 (still h le))))
+      (binds m _ _ _ _ (run_agrees r.opening (begin s) m (still h le)) (λ t j h2. next_agrees (run_of calls r.body) (run_of others r.body) k (λ g i h3. run_agrees r.body g i h3) t j (still h2 (still h le))))
+      (λ t j h2. ended_agrees r.post t j (still h2 (still h le))))
       (alike (given _ m)))
 
   pub call_agrees : (r : Option Routine) (s : Store) (n : ℕ) → n ≤ k → Agrees n (call_of calls r s n) (call_of others r s n)

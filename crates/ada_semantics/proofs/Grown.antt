@@ -1,19 +1,17 @@
 -- With more of a budget an evaluation comes to the same, where calls do.
-use Rattle.std.proofs.Common.{◌≡◌, ℕ, zero, suc, ◌+◌, arith, refl, ap, sym, subst, List, [], ◌∷◌, Bool, true, false, Option, Some, None, Ok, Err, Result, ℤ, pos, ◌+ℤ◌}
-use Rattle.ada_values.specs.Value.{Val, number, truth, array, record_of, Vals}
+use Rattle.std.proofs.Common.{◌≡◌, ℕ, zero, suc, ◌+◌, arith, refl, ap, sym, subst, Bool, true, false, Option, Some, None, Ok, Err, Result, ℤ, pos, ◌+ℤ◌}
+use Rattle.ada_values.specs.Value.{Val, number, truth, array, record_of}
 use Rattle.ada_values.specs.declared.place.Place.{Place}
-use Rattle.ada_values.specs.declared.scalars.Scalar.{Scalar}
 use Rattle.ada_values.specs.declared.scalars.OpFault.{OpFault}
 use Rattle.typed_units.specs.declared.checks.CheckKind.{CheckKind}
 use Rattle.typed_units.specs.declared.checks.SiteKey.{SiteKey}
-use Rattle.typed_units.specs.declared.operators.Bounds.{Bounds}
 use Rattle.typed_units.specs.declared.operators.Quantifier.{Quantifier}
 use Rattle.typed_units.specs.declared.operators.Relation.{Relation}
 use Rattle.typed_units.specs.declared.operators.Relation.TheVariants as relation
-use Rattle.typed_units.specs.Syntax.{Fit, Op1, first, last, length_at, succ_at, pred_at, same, negation, unary, convert, Op2, binary, compare, item, Var, param, index, Ex, at, Nd, static, read, component, op1, op2, connect, member, call, aggregate, choose, quantified, Exs, no_exs, fitted, Arms, other, arm, Assocs, no_assocs, assoc}
-use Rattle.ada_semantics.specs.Outcome.{Res, gives, fails, short, unset, bind, spend, pick, wanted, site, check}
-use Rattle.ada_semantics.specs.Operators.{keeps, checked, ranged, computed, apply1, apply2, ordered, related, item_of, member_of, truth_of, number_of, quantify, decides, span, stops_at, claims_any, fill}
-use Rattle.ada_semantics.specs.Store.{Slot, full, Slots, empties, wholes, component_slot, Store, put, Frame, set, entered}
+use Rattle.typed_units.specs.Syntax.{Fit, Op1, first, last, length_at, succ_at, pred_at, same, negation, unary, convert, Op2, binary, compare, item, param, index, Ex, at, Nd, static, read, component, op1, op2, connect, member, call, aggregate, choose, quantified, Exs, no_exs, fitted, Arms, other, arm, Assocs, no_assocs, assoc}
+use Rattle.ada_semantics.specs.Outcome.{Res, gives, fails, short, unset, bind, spend, pick, wanted, check}
+use Rattle.ada_semantics.specs.Operators.{keeps, checked, computed, apply1, apply2, related, item_of, member_of, truth_of, number_of, quantify, decides, span, stops_at, claims_any, fill}
+use Rattle.ada_semantics.specs.Store.{full, Slots, empties, wholes, component_slot, Store, put, Frame, set, entered}
 use Rattle.ada_semantics.specs.Values.{Calls, place_of, result_of, value_of, node_value, slot_of, values_of, chosen, associated}
 use Rattle.ada_semantics.specs.Budget.{Grows, CallsGrow}
 
@@ -140,7 +138,7 @@ module _ (calls others : Calls) (k : ℕ) (agree : CallsGrow k calls others) whe
         binds k _ _ _ _ (value_grows a f n) (λ u m. binds k _ _ _ _ (value_grows b f m) (λ v j. apply2_grows o (place_of b) u v j k))
     node_grows p (connect c a b) f n =
         binds k _ _ _ _ (value_grows a f n) (λ u m. on_truth u k _ _ (λ x. picks (stops_at c x) k _ _ _ _ (given _ m k)
-          (binds k _ _ _ _ (value_grows b f m) (λ v j. on_truth v k _ _ (λ y. given _ j k)))))
+        (binds k _ _ _ _ (value_grows b f m) (λ v j. on_truth v k _ _ (λ y. given _ j k)))))
     node_grows p (member is a l h) f n =
         binds k _ _ _ _ (value_grows a f n) (λ u m. binds k _ _ _ _ (value_grows l f m) (λ v j.
         binds k _ _ _ _ (value_grows h f j) (λ w r. member_grows is u v w r k)))
@@ -153,7 +151,7 @@ module _ (calls others : Calls) (k : ℕ) (agree : CallsGrow k calls others) whe
     node_grows p (quantified q i l h e) f n =
         binds k _ _ _ _ (value_grows l f n) (λ u m. binds k _ _ _ _ (value_grows h f m) (λ v j.
         on_number u k _ _ (λ lo. on_number v k _ _ (λ hi. quantifies (span lo hi) q lo _ _ j k
-          (λ x r. value_grows e (set f (index i) (full (number x))) r)))))
+        (λ x r. value_grows e (set f (index i) (full (number x))) r)))))
 
     slot_grows : (e : Ex) (f : Frame) (n : ℕ) → More k (slot_of calls e f n) (slot_of others e f (n + k))
     slot_grows (at p (read w x)) f n = spends n k _ _ (λ m. given _ m k)
@@ -175,7 +173,6 @@ module _ (calls others : Calls) (k : ℕ) (agree : CallsGrow k calls others) whe
     associated_grow no_assocs x ss f n = given _ n k
     associated_grow (assoc ranges is_others fit e es) x ss f n =
         picks (claims_any ranges is_others x ss) k _ _ _ _
-          (binds k _ _ _ _ (value_grows e f n) (λ v m. binds k _ _ _ _ (checks fit (place_of e) v m k) (λ w j.
-           associated_grow es x (fill ranges is_others x w ss) f j)))
-          (associated_grow es x ss f n)
-
+        (binds k _ _ _ _ (value_grows e f n) (λ v m. binds k _ _ _ _ (checks fit (place_of e) v m k) (λ w j.
+        associated_grow es x (fill ranges is_others x w ss) f j)))
+        (associated_grow es x ss f n)

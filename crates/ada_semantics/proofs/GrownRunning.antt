@@ -1,18 +1,18 @@
 -- With more of a budget a run comes to the same.
-use Rattle.std.proofs.Common.{◌≡◌, ℕ, zero, suc, ◌+◌, ◌≤◌, arith, refl, ap, List, [], ◌∷◌, map, Bool, true, false, ◌||◌, Option, Some, None, ℤ, pos, negsuc, ◌+ℤ◌}
-use Rattle.ada_values.specs.Value.{Val, number, truth, array, record_of}
+use Rattle.std.proofs.Common.{ℕ, zero, suc, ◌+◌, ◌≤◌, arith, refl, ap, List, [], ◌∷◌, map, Bool, true, ◌||◌, Option, Some, None, ℤ, pos, negsuc, ◌+ℤ◌}
+use Rattle.ada_values.specs.Value.{Val, number}
 use Rattle.ada_values.specs.declared.place.Place.{Place}
 use Rattle.typed_units.specs.declared.checks.CheckKind.{CheckKind}
 use Rattle.typed_units.specs.declared.checks.CheckKind.TheVariants as kind
 use Rattle.typed_units.specs.declared.operators.Bounds.{Bounds}
-use Rattle.typed_units.specs.Syntax.{Fit, Var, param, turn, answer, Ex, Step, to_component, to_item, Target, Actual, pass_in, pass_out, pass_in_out, Way, Demand, invariant, variant, Head, forever, while, for, St, st, Ac, skip, assign, invoke, branch, case_of, loop, exit, exit_when, return, give, assert, assume, Sts, done, then, Branches, otherwise, when, Alternatives, no_alternatives, alternative, Routine, Text}
-use Rattle.ada_semantics.specs.Outcome.{Res, gives, fails, short, unset, bind, spend, pick, wanted, check}
+use Rattle.typed_units.specs.Syntax.{Fit, Var, param, turn, Ex, Step, to_component, to_item, Target, Actual, pass_in, pass_out, pass_in_out, Way, Demand, invariant, variant, Head, forever, while, for, St, st, Ac, skip, assign, invoke, branch, case_of, loop, exit, exit_when, return, give, assert, assume, Sts, done, then, Branches, otherwise, when, Alternatives, no_alternatives, alternative, Routine, Text}
+use Rattle.ada_semantics.specs.Outcome.{Res, gives, fails, short, unset, bind, wanted}
 use Rattle.ada_semantics.specs.Store.{Slot, full, whole, component_slot, item_slot, Store, Frame, set, enter_loop, entered, with_globals, begin}
 use Rattle.ada_semantics.specs.Operators.{span, checked, lies_in}
 use Rattle.ada_semantics.specs.Values.{Calls, place_of, value_of}
-use Rattle.ada_semantics.specs.Targets.{Spot, position_in, bounds_of, spots_of, reaches, located, slot_in, write}
+use Rattle.ada_semantics.specs.Targets.{position_in, bounds_of, spots_of, reaches, located, slot_in, write}
 use Rattle.ada_semantics.specs.Running.{Stop, goes, leaves, returns, next, holds_at, fitting, Return, Passed, one_passed, passed, with_params, copied_back, came_back, numbers_of, variant_check, demanded, moved_since, invariant_kind, Round, again, over, in_loop, Turn, one_turn, after_round, turns_while, turns_over, truth_at, looped, step_of, action_of, run_of, branch_of, selected}
-use Rattle.ada_semantics.specs.Plain.{Plain, plain, plain_run, plain_of, started, given_params, condition, finished, ended, one_call, routine_at, call_of, calls_within}
+use Rattle.ada_semantics.specs.Plain.{plain_run, plain_of, started, given_params, condition, finished, ended, one_call, routine_at, call_of, calls_within}
 use Rattle.ada_semantics.specs.Budget.{Grows, CallsGrow, MoreForCalls, MoreForRuns, Settled}
 use Rattle.ada_semantics.proofs.Grown.{More, given, failing, nothing, running_out, binds, spends, picks, passes, wants, on_truth, on_number, checks, value_grows}
 
@@ -35,7 +35,7 @@ copied_grows [] s f n k = given _ n k
 copied_grows (p ∷ ps) s f n k = back_grows p.back k _ _ (back_to p ps s f n) (back_to p ps s f (n + k))
     (copied_grows ps s f n k)
     (λ r. binds k _ _ _ _ (wants (whole (s (param p.formal))) n k) (λ v m. binds k _ _ _ _ (checks r.fit r.place v m k) (λ w j.
-      copied_grows ps s (write f r.var r.spots w) j k)))
+    copied_grows ps s (write f r.var r.spots w) j k)))
 
 came_grows : (p : Place) (ps : List Passed) (f : Frame) (s : Option Store) (n k : ℕ) → More k (came_back p ps f s n) (came_back p ps f s (n + k))
 came_grows p ps f None n k = failing _ k
@@ -138,7 +138,7 @@ module _ (calls others : Calls) (k : ℕ) (agree : CallsGrow k calls others) whe
       AlikeTurns (one_turn before (λ last g j. demanded calls group last [] g j) after) (one_turn tried (λ last g j. demanded others group last [] g j) later) k
   turn_grows before tried group after later w v l f n = spends n k _ _ (λ m. binds k _ _ _ _ (w f m) (λ s x.
       in_loop_grows _ _ k (λ g j. binds k _ _ _ _ (demanded_grows group l [] g j) (λ xs r.
-        binds k _ _ _ _ (v g r) (λ t y. in_loop_grows _ _ k (λ i z. given (again xs i) z k) t y)))
+      binds k _ _ _ _ (v g r) (λ t y. in_loop_grows _ _ k (λ i z. given (again xs i) z k) t y)))
       s x))
 
   tested : (e : Ex) (f : Frame) (n : ℕ) → More k (truth_at calls e f n) (truth_at others e f (n + k))
@@ -149,8 +149,8 @@ module _ (calls others : Calls) (k : ℕ) (agree : CallsGrow k calls others) whe
   looped_grows (while e) body other w f n = while_grows (suc n) (suc (n + k)) (truth_at calls e) (truth_at others e) body other k (omega arith) (tested e) w None f n
   looped_grows (for reversed i l hi') body other w f n = binds k _ _ _ _ (value l f n) (λ u m. binds k _ _ _ _ (value hi' f m) (λ v j.
       on_number u k _ _ (λ lo. on_number v k _ _ (λ hi. picks reversed k _ _ _ _
-        (over_grows (span lo hi) (turn i) hi (negsuc 0) body other k w None f j)
-        (over_grows (span lo hi) (turn i) lo (pos 1) body other k w None f j)))))
+      (over_grows (span lo hi) (turn i) hi (negsuc 0) body other k w None f j)
+      (over_grows (span lo hi) (turn i) lo (pos 1) body other k w None f j)))))
 
   -- ---- statements
 
@@ -167,7 +167,7 @@ module _ (calls others : Calls) (k : ℕ) (agree : CallsGrow k calls others) whe
     action_grows p (case_of e as') f n = binds k _ _ _ _ (value e f n) (λ v m. on_number v k _ _ (λ x. selected_grows as' x f m))
     action_grows p (loop i hd before group after) f n =
         looped_grows hd _ _ (turn_grows (run_of calls before) (run_of others before) group (run_of calls after) (run_of others after)
-          (λ g m. run_grows before g m) (λ g m. run_grows after g m)) (enter_loop f i) n
+        (λ g m. run_grows before g m) (λ g m. run_grows after g m)) (enter_loop f i) n
     action_grows p exit f n = given _ n k
     action_grows p (exit_when e) f n = binds k _ _ _ _ (value e f n) (λ v m. on_truth v k _ _ (λ b. given _ m k))
     action_grows p return f n = given _ n k
@@ -206,14 +206,13 @@ module _ (calls others : Calls) (k : ℕ) (agree : CallsGrow k calls others) whe
   pub one_call_grows : (r : Routine) (s : Store) (n : ℕ) → More k (one_call calls r s n) (one_call others r s (n + k))
   one_call_grows r s n = binds k _ _ _ _ (condition_grows r.pre (begin s) n) (λ b m. picks b k _ _ _ _
       (binds k _ _ _ _
-        (binds k _ _ _ _ (run_grows r.opening (begin s) m) (λ t j. next_grows (run_of calls r.body) (run_of others r.body) k (λ g i. run_grows r.body g i) t j))
-        (λ t j. ended_grows r.post t j))
+      (binds k _ _ _ _ (run_grows r.opening (begin s) m) (λ t j. next_grows (run_of calls r.body) (run_of others r.body) k (λ g i. run_grows r.body g i) t j))
+      (λ t j. ended_grows r.post t j))
       (given _ m k))
 
   pub call_grows : (r : Option Routine) (s : Store) (n : ℕ) → More k (call_of calls r s n) (call_of others r s (n + k))
   call_grows None s n = nothing k
   call_grows (Some r) s n = one_call_grows r s n
-
 
 -- ---- programs
 

@@ -4,3 +4,4 @@ pub mod Agreed
 pub mod AgreedRunning
 pub mod Grown
 pub mod GrownRunning
+pub mod OneAnswer

@@ -1,19 +1,17 @@
 -- No evaluation leaves more of the budget than it was given, where no call does.
-use Rattle.std.proofs.Common.{◌≡◌, ℕ, zero, suc, ◌≤◌, ◌<◌, arith, List, [], ◌∷◌, Bool, true, false, not, Option, Some, None, Ok, Err, Result, ℤ, pos, ◌+ℤ◌, ◌-ℤ◌}
-use Rattle.ada_values.specs.Value.{Val, number, truth, array, record_of, Vals}
+use Rattle.std.proofs.Common.{ℕ, zero, suc, ◌≤◌, arith, Bool, true, false, Option, Some, None, Ok, Err, Result, ℤ, pos, ◌+ℤ◌}
+use Rattle.ada_values.specs.Value.{Val, number, truth, array, record_of}
 use Rattle.ada_values.specs.declared.place.Place.{Place}
-use Rattle.ada_values.specs.declared.scalars.Scalar.{Scalar}
 use Rattle.ada_values.specs.declared.scalars.OpFault.{OpFault}
 use Rattle.typed_units.specs.declared.checks.CheckKind.{CheckKind}
 use Rattle.typed_units.specs.declared.checks.SiteKey.{SiteKey}
-use Rattle.typed_units.specs.declared.operators.Bounds.{Bounds}
 use Rattle.typed_units.specs.declared.operators.Quantifier.{Quantifier}
 use Rattle.typed_units.specs.declared.operators.Relation.{Relation}
 use Rattle.typed_units.specs.declared.operators.Relation.TheVariants as relation
-use Rattle.typed_units.specs.Syntax.{Fit, Op1, first, last, length_at, succ_at, pred_at, same, negation, unary, convert, Op2, binary, compare, item, Var, param, index, Ex, at, Nd, static, read, component, op1, op2, connect, member, call, aggregate, choose, quantified, Exs, no_exs, fitted, Arms, other, arm, Assocs, no_assocs, assoc}
-use Rattle.ada_semantics.specs.Outcome.{Res, gives, fails, short, unset, bind, spend, pick, wanted, site, check}
-use Rattle.ada_semantics.specs.Operators.{keeps, checked, ranged, computed, apply1, apply2, ordered, related, item_of, member_of, truth_of, number_of, quantify, decides, span, stops_at, claims_any, fill}
-use Rattle.ada_semantics.specs.Store.{Slot, full, Slots, empties, wholes, component_slot, Store, put, Frame, set, entered}
+use Rattle.typed_units.specs.Syntax.{Fit, Op1, first, last, length_at, succ_at, pred_at, same, negation, unary, convert, Op2, binary, compare, item, param, index, Ex, at, Nd, static, read, component, op1, op2, connect, member, call, aggregate, choose, quantified, Exs, no_exs, fitted, Arms, other, arm, Assocs, no_assocs, assoc}
+use Rattle.ada_semantics.specs.Outcome.{Res, gives, fails, short, unset, bind, spend, pick, wanted, check}
+use Rattle.ada_semantics.specs.Operators.{keeps, checked, computed, apply1, apply2, related, item_of, member_of, truth_of, number_of, quantify, decides, span, stops_at, claims_any, fill}
+use Rattle.ada_semantics.specs.Store.{full, Slots, empties, wholes, component_slot, Store, put, Frame, set, entered}
 use Rattle.ada_semantics.specs.Values.{Calls, place_of, result_of, value_of, node_value, slot_of, values_of, chosen, associated}
 use Rattle.ada_semantics.specs.Budget.{Left, Took, CallsTake, ValuesTake}
 
@@ -158,7 +156,7 @@ module _ (calls : Calls) (take : CallsTake calls) where
         bound (value_of calls a f n) n _ (value_left a f n) (λ u m. bound (value_of calls b f m) m _ (value_left b f m) (λ v j. apply2_left k (place_of b) u v j))
     node_left p (connect c a b) f n =
         bound (value_of calls a f n) n _ (value_left a f n) (λ u m. on_truth u m _ (λ x. picked (stops_at c x) m _ _ (given _ m)
-          (bound (value_of calls b f m) m _ (value_left b f m) (λ v j. on_truth v j _ (λ y. given _ j)))))
+        (bound (value_of calls b f m) m _ (value_left b f m) (λ v j. on_truth v j _ (λ y. given _ j)))))
     node_left p (member is a l h) f n =
         bound (value_of calls a f n) n _ (value_left a f n) (λ u m. bound (value_of calls l f m) m _ (value_left l f m) (λ v j.
         bound (value_of calls h f j) j _ (value_left h f j) (λ w k. member_left is u v w k)))
@@ -172,7 +170,7 @@ module _ (calls : Calls) (take : CallsTake calls) where
     node_left p (quantified q k l h e) f n =
         bound (value_of calls l f n) n _ (value_left l f n) (λ u m. bound (value_of calls h f m) m _ (value_left h f m) (λ v j.
         on_number u j _ (λ lo. on_number v j _ (λ hi. quantify_left (span lo hi) q lo (λ i r. value_of calls e (set f (index k) (full (number i))) r) j
-          (λ i r. value_left e (set f (index k) (full (number i))) r)))))
+        (λ i r. value_left e (set f (index k) (full (number i))) r)))))
 
     slot_left : (e : Ex) (f : Frame) (n : ℕ) → Keeps n (slot_of calls e f n)
     slot_left (at p (read w x)) f n = (spends n _ (λ m. given _ m))
@@ -194,9 +192,9 @@ module _ (calls : Calls) (take : CallsTake calls) where
     associated_left no_assocs x ss f n = given _ n
     associated_left (assoc ranges others fit e es) x ss f n =
         picked (claims_any ranges others x ss) n _ _
-          (bound (value_of calls e f n) n _ (value_left e f n) (λ v m. bound (checked fit (place_of e) v m) m _ (checks fit (place_of e) v m) (λ w j.
-           associated_left es x (fill ranges others x w ss) f j)))
-          (associated_left es x ss f n)
+        (bound (value_of calls e f n) n _ (value_left e f n) (λ v m. bound (checked fit (place_of e) v m) m _ (checks fit (place_of e) v m) (λ w j.
+        associated_left es x (fill ranges others x w ss) f j)))
+        (associated_left es x ss f n)
 
   pub value_took : (e : Ex) (f : Frame) (n : ℕ) → Took n (value_of calls e f n)
   value_took (at p x) f n = spent n _ (λ m. node_left p x f m)

@@ -1,16 +1,16 @@
 -- No run of statements and no call leaves more of the budget than it was given.
-use Rattle.std.proofs.Common.{◌≡◌, ℕ, zero, suc, ◌≤◌, List, [], ◌∷◌, Bool, true, false, ◌||◌, Option, Some, None, ℤ, pos, negsuc, ◌+ℤ◌}
-use Rattle.ada_values.specs.Value.{Val, number, truth, array, record_of}
+use Rattle.std.proofs.Common.{ℕ, zero, suc, List, [], ◌∷◌, Bool, true, ◌||◌, Option, Some, None, ℤ, pos, negsuc, ◌+ℤ◌}
+use Rattle.ada_values.specs.Value.{Val, number}
 use Rattle.ada_values.specs.declared.place.Place.{Place}
 use Rattle.typed_units.specs.declared.checks.CheckKind.{CheckKind}
 use Rattle.typed_units.specs.declared.checks.CheckKind.TheVariants as kind
 use Rattle.typed_units.specs.declared.operators.Bounds.{Bounds}
-use Rattle.typed_units.specs.Syntax.{Fit, Var, param, turn, answer, Ex, Step, to_component, to_item, Target, Actual, pass_in, pass_out, pass_in_out, Way, Demand, invariant, variant, Head, forever, while, for, St, st, Ac, skip, assign, invoke, branch, case_of, loop, exit, exit_when, return, give, assert, assume, Sts, done, then, Branches, otherwise, when, Alternatives, no_alternatives, alternative, Routine, Text}
-use Rattle.ada_semantics.specs.Outcome.{Res, gives, bind, spend, pick, wanted, check}
+use Rattle.typed_units.specs.Syntax.{Fit, Var, param, turn, Ex, Step, to_component, to_item, Target, Actual, pass_in, pass_out, pass_in_out, Way, Demand, invariant, variant, Head, forever, while, for, St, st, Ac, skip, assign, invoke, branch, case_of, loop, exit, exit_when, return, give, assert, assume, Sts, done, then, Branches, otherwise, when, Alternatives, no_alternatives, alternative, Routine}
+use Rattle.ada_semantics.specs.Outcome.{Res, gives, bind, wanted}
 use Rattle.ada_semantics.specs.Store.{Slot, full, whole, component_slot, item_slot, Store, Frame, set, enter_loop, entered, with_globals, begin}
 use Rattle.ada_semantics.specs.Operators.{span, checked, lies_in}
 use Rattle.ada_semantics.specs.Values.{Calls, place_of, value_of}
-use Rattle.ada_semantics.specs.Targets.{Spot, position_in, bounds_of, spots_of, reaches, located, slot_in, write}
+use Rattle.ada_semantics.specs.Targets.{position_in, bounds_of, spots_of, reaches, located, slot_in, write}
 use Rattle.ada_semantics.specs.Running.{Stop, goes, leaves, returns, next, holds_at, fitting, Return, Passed, one_passed, passed, with_params, copied_back, came_back, numbers_of, variant_check, demanded, moved_since, invariant_kind, Round, again, over, in_loop, Turn, one_turn, after_round, turns_while, turns_over, looped, step_of, action_of, run_of, branch_of, selected}
 use Rattle.ada_semantics.specs.Plain.{condition, finished, ended, one_call, routine_at, call_of, calls_within}
 use Rattle.ada_semantics.specs.Budget.{CallsTake, RunsTake, ProgramsTake}
@@ -31,7 +31,7 @@ copied_left [] s f n = given _ n
 copied_left (p ∷ ps) s f n = back_left p.back n _ (λ r. bind (wanted (whole (s (param p.formal))) n) (λ v m. bind (checked r.fit r.place v m) (λ w j. copied_back ps s (write f r.var r.spots w) j)))
     (copied_left ps s f n)
     (λ r. bound (wanted (whole (s (param p.formal))) n) n _ (wants _ n) (λ v m. bound (checked r.fit r.place v m) m _ (checks r.fit r.place v m) (λ w j.
-      copied_left ps s (write f r.var r.spots w) j)))
+    copied_left ps s (write f r.var r.spots w) j)))
 
 pub came_left : (p : Place) (ps : List Passed) (f : Frame) (s : Option Store) (n : ℕ) → Keeps n (came_back p ps f s n)
 came_left p ps f None n = failing _ n
@@ -131,7 +131,7 @@ module _ (calls : Calls) (take : CallsTake calls) where
   looped_left (while e) body w f n = while_left (suc n) _ body (λ g m. bound (value_of calls e g m) m _ (value e g m) (λ v j. on_truth v j _ (λ b. given b j))) w None f n
   looped_left (for reversed k l h) body w f n = bound (value_of calls l f n) n _ (value l f n) (λ u m. bound (value_of calls h f m) m _ (value h f m) (λ v j.
       on_number u j _ (λ lo. on_number v j _ (λ hi. picked reversed j _ _
-        (over_left (span lo hi) (turn k) hi (negsuc 0) body w None f j) (over_left (span lo hi) (turn k) lo (pos 1) body w None f j)))))
+      (over_left (span lo hi) (turn k) hi (negsuc 0) body w None f j) (over_left (span lo hi) (turn k) lo (pos 1) body w None f j)))))
 
   -- ---- statements
 
@@ -185,8 +185,8 @@ module _ (calls : Calls) (take : CallsTake calls) where
   one_call_left : (q : Routine) (s : Store) (n : ℕ) → Keeps n (one_call calls q s n)
   one_call_left q s n = bound (condition calls q.pre (begin s) n) n _ (condition_left q.pre (begin s) n) (λ b m. picked b m _ _
       (bound (bind (run_of calls q.opening (begin s) m) (next (run_of calls q.body))) m _
-        (bound (run_of calls q.opening (begin s) m) m _ (run_left q.opening (begin s) m) (next_left (run_of calls q.body) (λ g j. run_left q.body g j)))
-        (ended_left q.post))
+      (bound (run_of calls q.opening (begin s) m) m _ (run_left q.opening (begin s) m) (next_left (run_of calls q.body) (λ g j. run_left q.body g j)))
+      (ended_left q.post))
       (given _ m))
 
   pub call_left : (r : Option Routine) (s : Store) (n : ℕ) → Keeps n (call_of calls r s n)

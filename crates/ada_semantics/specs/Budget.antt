@@ -67,3 +67,26 @@ Settled reads_unset t = t ≡ reads_unset
 -- a run that doesn't spend its budget comes to the same with more
 abbrev pub MoreForRuns : Type 0
 MoreForRuns = (p : Text) (q : ℕ) (params globals : List Val) (n k : ℕ) → Settled (plain p q params globals n) (plain p q params globals (n + k))
+
+-- two results say the same, where neither budget was spent
+abbrev pub Alike : {A : Type 0} → Res A → Res A → Type 0
+Alike short t = Unit {0}
+Alike r short = Unit {0}
+Alike (gives a n) (gives b m) = a ≡ b
+Alike (fails c) (fails d) = c ≡ d
+Alike unset unset = Unit {0}
+Alike _ _ = ⊥
+
+-- a call has one answer, whatever its budget
+abbrev pub OneAnswer : Type 0
+OneAnswer = (depth other n m : ℕ) (p : Text) (q : ℕ) (s : Store) → Alike (calls_within depth p q s n) (calls_within other p q s m)
+
+-- two outcomes of a run are one, where neither budget was spent
+abbrev pub AlikeRuns : Plain → Plain → Type 0
+AlikeRuns plain_short t = Unit {0}
+AlikeRuns r plain_short = Unit {0}
+AlikeRuns r t = r ≡ t
+
+-- a run has one outcome, whatever its budget
+abbrev pub OneOutcome : Type 0
+OneOutcome = (p : Text) (q : ℕ) (params globals : List Val) (n m : ℕ) → AlikeRuns (plain p q params globals n) (plain p q params globals m)

@@ -16,12 +16,12 @@ use Rattle.typed_units.specs.declared.programs.Mode.TheVariants as mode
 use Rattle.typed_units.specs.Syntax.{Var, param, Fit, present, same, negation, unary, convert, binary, compare, Op1, Ex, at, static, read, op1, op2, connect, Step, Target, St, st, assign, invoke, branch, Branches, otherwise, when, give, assert, return, Actual, Sts, done, then, Formal, Routine, Text}
 use Rattle.ada_semantics.specs.Values.{place_of}
 use Rattle.ada_semantics.specs.Plain.{Plain, ends}
-
 pub mod Expressions
 pub mod Statements
 pub mod Loops
 pub mod Calls
 pub mod Parts
+pub mod Search
 
 -- ---- places
 

@@ -1,14 +1,14 @@
 -- The operators, with their checks.
-use Rattle.std.specs.Prelude.{ℕ, zero, suc, Bool, true, false, not, ◌&&◌, ◌||◌, Option, Some, None, Result, Ok, Err, List, [], ◌∷◌, ℤ, pos, negsuc, ◌+ℤ◌, ◌-ℤ◌}
+use Rattle.std.specs.Prelude.{ℕ, zero, suc, Bool, true, false, not, ◌&&◌, ◌||◌, Some, None, Result, Ok, Err, List, [], ◌∷◌, ℤ, pos, negsuc, ◌+ℤ◌, ◌-ℤ◌}
 use Rattle.std.specs.Ordering.{int_eq}
 use Rattle.std.specs.Int.RustNames.{int_lt, int_le}
-use Rattle.ada_values.specs.Value.{Val, number, truth, array, record_of, Vals, no_vals, val, val_at, same_val}
+use Rattle.ada_values.specs.Value.{Val, number, truth, array, record_of, Vals, val_at, same_val}
 use Rattle.ada_values.specs.Combine.{combined}
 use Rattle.ada_values.specs.Scalars.{within}
+use Rattle.ada_values.specs.Shapes.{range_length}
 use Rattle.ada_values.specs.declared.place.Place.{Place}
 use Rattle.ada_values.specs.declared.scalars.OpFault.{OpFault}
 use Rattle.ada_values.specs.declared.scalars.OpFault.TheVariants as fault
-use Rattle.ada_values.specs.declared.scalars.Op.{Op}
 use Rattle.ada_values.specs.declared.scalars.Scalar.{Scalar}
 use Rattle.typed_units.specs.declared.operators.Bounds.{Bounds}
 use Rattle.typed_units.specs.declared.operators.Composite.{Composite}
@@ -19,20 +19,19 @@ use Rattle.typed_units.specs.declared.operators.Quantifier.{Quantifier}
 use Rattle.typed_units.specs.declared.operators.Quantifier.TheVariants as quantifier
 use Rattle.typed_units.specs.declared.operators.Relation.{Relation}
 use Rattle.typed_units.specs.declared.operators.Relation.TheVariants as relation
-use Rattle.typed_units.specs.declared.checks.CheckKind.{CheckKind}
 use Rattle.typed_units.specs.declared.checks.CheckKind.TheVariants as kind
 use Rattle.typed_units.specs.declared.checks.SiteKey.{SiteKey}
 use Rattle.typed_units.specs.Syntax.{Fit, Op1, first, last, length_at, succ_at, pred_at, same, negation, unary, convert, Op2, binary, compare, item}
-use Rattle.ada_semantics.specs.Outcome.{Res, gives, fails, short, unset, bind, spend, pick, wanted, site, check}
-use Rattle.ada_semantics.specs.Store.{Slot, empty, full, Slots, no_slots, slot, empties, wholes}
+use Rattle.ada_semantics.specs.Outcome.{Res, gives, fails, unset, bind, spend, pick, wanted, site, check}
+use Rattle.ada_semantics.specs.Store.{Slot, empty, full, Slots, no_slots, slot}
 
 abbrev pub natural_of : ℤ → ℕ
 natural_of (pos n) = n
 natural_of (negsuc n) = zero
 
--- how many whole numbers lie from lo to hi
+-- how many whole numbers lie from lo to hi (Ada RM 3.6.2)
 abbrev pub span : ℤ → ℤ → ℕ
-span lo hi = natural_of ((hi +ℤ pos 1) -ℤ lo)
+span = range_length
 
 -- the position, from 0, of an index in an array that begins at lo
 abbrev pub position : ℤ → ℤ → ℕ

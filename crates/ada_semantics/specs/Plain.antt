@@ -7,12 +7,11 @@ use Rattle.typed_units.specs.declared.checks.CheckKind.TheVariants as kind
 use Rattle.typed_units.specs.declared.checks.SiteKey.{SiteKey}
 use Rattle.typed_units.specs.declared.programs.Mode.{Mode}
 use Rattle.typed_units.specs.declared.programs.Mode.TheVariants as mode
-use Rattle.typed_units.specs.Syntax.{Var, param, local, global, turn, index, answer, Ex, Formal, Routine, Text}
+use Rattle.typed_units.specs.Syntax.{param, global, answer, Ex, Formal, Routine, Text}
 use Rattle.ada_semantics.specs.Outcome as res
 use Rattle.ada_semantics.specs.Outcome.{Res, bind, pick, check}
-use Rattle.ada_semantics.specs.Store.{Slot, empty, full_if, whole, Store, Frame, begin, nth}
-use Rattle.ada_semantics.specs.Operators.{truth_of}
-use Rattle.ada_semantics.specs.Values.{Calls, value_of, place_of}
+use Rattle.ada_semantics.specs.Store.{empty, full_if, whole, Store, Frame, begin, nth}
+use Rattle.ada_semantics.specs.Values.{Calls}
 use Rattle.ada_semantics.specs.Running.{Stop, goes, leaves, returns, next, run_of, holds_at, truth_at}
 
 -- ---- calls (Ada RM 6.4, 6.1.1)

@@ -1,13 +1,11 @@
 -- The run of statements (Ada RM 5): each statement, initial value and turn of a loop takes a unit of the budget.
-use Rattle.std.specs.Prelude.{ℕ, zero, suc, Bool, true, false, not, ◌&&◌, ◌||◌, Option, Some, None, List, [], ◌∷◌, map, ℤ, pos, negsuc, ◌+ℤ◌}
+use Rattle.std.specs.Prelude.{ℕ, zero, suc, Bool, true, false, ◌||◌, Option, Some, None, List, [], ◌∷◌, ℤ, pos, negsuc, ◌+ℤ◌}
 use Rattle.std.specs.Ordering.{int_eq}
 use Rattle.std.specs.Int.RustNames.{int_lt}
 use Rattle.ada_values.specs.Value.{Val, number}
 use Rattle.ada_values.specs.declared.place.Place.{Place}
-use Rattle.typed_units.specs.declared.operators.Bounds.{Bounds}
 use Rattle.typed_units.specs.declared.checks.CheckKind.{CheckKind}
 use Rattle.typed_units.specs.declared.checks.CheckKind.TheVariants as kind
-use Rattle.typed_units.specs.declared.statements.Direction.{Direction}
 use Rattle.typed_units.specs.declared.statements.Direction.TheVariants as direction
 use Rattle.typed_units.specs.Syntax.{Fit, Var, param, turn, answer, Ex, Target, Actual, pass_in, pass_out, pass_in_out, Way, Demand, invariant, variant, Head, forever, while, for, St, st, Ac, skip, assign, invoke, branch, case_of, loop, exit, exit_when, return, give, assert, assume, Sts, done, then, Branches, otherwise, when, Alternatives, no_alternatives, alternative}
 use Rattle.ada_semantics.specs.Outcome.{Res, gives, fails, short, unset, bind, spend, pick, wanted, site, check}
@@ -82,9 +80,10 @@ with_params (p ∷ ps) s = with_params ps (put s (param p.formal) (full_if p.val
 abbrev pub copied_back : List Passed → Store → Frame → ℕ → Res Stop
 copied_back [] s f n = gives (goes f) n
 copied_back (p ∷ ps) s f n = elim p.back [
-    None ↦ copied_back ps s f n
+  | None ↦ copied_back ps s f n
   | Some r ↦ bind (wanted (whole (s (param p.formal))) n) (λ v m. bind (checked r.fit r.place v m) (λ w j.
-      copied_back ps s (write f r.var r.spots w) j)) ]
+      copied_back ps s (write f r.var r.spots w) j))
+]
 
 -- after the subprogram came back
 abbrev pub came_back : Place → List Passed → Frame → Option Store → ℕ → Res Stop

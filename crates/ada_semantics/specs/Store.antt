@@ -1,6 +1,6 @@
 -- The variables of a subprogram at work (Ada RM 3.3.1).
-use Rattle.std.specs.Prelude.{ℕ, zero, suc, Bool, true, false, ◌&&◌, ◌==◌, Option, Some, None, List, [], ◌∷◌}
-use Rattle.ada_values.specs.Value.{Val, number, truth, array, record_of, Vals, no_vals, val, val_at, with_val}
+use Rattle.std.specs.Prelude.{ℕ, zero, suc, Bool, true, false, ◌==◌, Option, Some, None, List, [], ◌∷◌}
+use Rattle.ada_values.specs.Value.{Val, array, record_of, Vals, no_vals, val, val_at, with_val}
 use Rattle.typed_units.specs.Syntax.{Var, param, local, global, turn, index, answer, Moment, present, entry, loop_entry}
 use Rattle.ada_semantics.specs.Outcome.{pick}
 

@@ -1,12 +1,12 @@
 -- Where a target lies, and what is written there (Ada RM 5.2).
-use Rattle.std.specs.Prelude.{ℕ, zero, suc, Bool, true, false, ◌&&◌, Option, Some, None, List, [], ◌∷◌}
-use Rattle.ada_values.specs.Value.{Val, number, truth, array, record_of}
+use Rattle.std.specs.Prelude.{ℕ, Bool, true, ◌&&◌, Option, Some, None, List, [], ◌∷◌}
+use Rattle.ada_values.specs.Value.{Val, number, array}
 use Rattle.ada_values.specs.declared.place.Place.{Place}
 use Rattle.typed_units.specs.declared.operators.Bounds.{Bounds}
 use Rattle.typed_units.specs.declared.checks.CheckKind.TheVariants as kind
-use Rattle.typed_units.specs.Syntax.{Ex, Var, Step, to_component, to_item, Target}
-use Rattle.ada_semantics.specs.Outcome.{Res, gives, fails, short, unset, bind, pick, wanted, site}
-use Rattle.ada_semantics.specs.Store.{Slot, empty, full, parts, whole, components, component_slot, item_slot, is_array, with_item_value, with_slot, Frame, set}
+use Rattle.typed_units.specs.Syntax.{Var, Step, to_component, to_item, Target}
+use Rattle.ada_semantics.specs.Outcome.{Res, gives, fails, unset, bind, pick, site}
+use Rattle.ada_semantics.specs.Store.{Slot, full, parts, whole, components, component_slot, item_slot, is_array, with_item_value, with_slot, Frame, set}
 use Rattle.ada_semantics.specs.Operators.{position}
 use Rattle.ada_values.specs.Scalars.{within}
 use Rattle.ada_semantics.specs.Values.{Calls, value_of, place_of}

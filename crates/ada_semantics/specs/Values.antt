@@ -1,14 +1,11 @@
 -- The value of an expression (Ada RM 4): each node takes a unit of the budget, then its parts are evaluated from left to
 -- right, then its checks are made.
-use Rattle.std.specs.Prelude.{ℕ, zero, suc, Bool, true, false, Option, Some, None, List, [], ◌∷◌, map, ℤ}
-use Rattle.ada_values.specs.Value.{Val, number, truth, Vals}
+use Rattle.std.specs.Prelude.{ℕ, Option, Some, None, ℤ}
+use Rattle.ada_values.specs.Value.{Val, number, truth}
 use Rattle.ada_values.specs.declared.place.Place.{Place}
-use Rattle.typed_units.specs.declared.operators.Bounds.{Bounds}
-use Rattle.typed_units.specs.declared.operators.Composite.{Composite}
-use Rattle.typed_units.specs.declared.operators.Connective.{Connective}
 use Rattle.typed_units.specs.declared.checks.CheckKind.TheVariants as kind
-use Rattle.typed_units.specs.Syntax.{Var, param, index, answer, Ex, at, Nd, static, read, component, op1, op2, connect, member, call, aggregate, choose, quantified, Exs, no_exs, fitted, Arms, other, arm, Assocs, no_assocs, assoc}
-use Rattle.ada_semantics.specs.Outcome.{Res, gives, fails, short, unset, bind, spend, pick, wanted, site}
+use Rattle.typed_units.specs.Syntax.{param, index, answer, Ex, at, Nd, static, read, component, op1, op2, connect, member, call, aggregate, choose, quantified, Exs, no_exs, fitted, Arms, other, arm, Assocs, no_assocs, assoc}
+use Rattle.ada_semantics.specs.Outcome.{Res, gives, fails, bind, spend, pick, wanted, site}
 use Rattle.ada_semantics.specs.Store.{Slot, full, Slots, empties, whole, wholes, component_slot, Store, put, Frame, set, state_in, entered}
 use Rattle.ada_semantics.specs.Operators.{span, checked, apply1, apply2, member_of, stops_at, joined, truth_of, number_of, quantify, claims_any, fill, built}
 
@@ -42,7 +39,7 @@ abbrev mutual
   node_value calls p (connect c a b) f n =
       bind (value_of calls a f n) (λ u m. truth_of u (λ x.
       pick (stops_at c x) (gives (truth x) m)
-        (bind (value_of calls b f m) (λ v j. truth_of v (λ y. gives (truth (joined c x y)) j)))))
+      (bind (value_of calls b f m) (λ v j. truth_of v (λ y. gives (truth (joined c x y)) j)))))
   -- Ada RM 4.5.2
   node_value calls p (member is a l h) f n =
       bind (value_of calls a f n) (λ u m. bind (value_of calls l f m) (λ v j. bind (value_of calls h f j) (λ w k. member_of is u v w k)))
@@ -83,6 +80,6 @@ abbrev mutual
   associated calls no_assocs x ss f n = gives ss n
   associated calls (assoc ranges others fit e es) x ss f n =
       pick (claims_any ranges others x ss)
-        (bind (value_of calls e f n) (λ v m. bind (checked fit (place_of e) v m) (λ w j.
-         associated calls es x (fill ranges others x w ss) f j)))
-        (associated calls es x ss f n)
+      (bind (value_of calls e f n) (λ v m. bind (checked fit (place_of e) v m) (λ w j.
+      associated calls es x (fill ranges others x w ss) f j)))
+      (associated calls es x ss f n)

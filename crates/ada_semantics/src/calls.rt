@@ -13,8 +13,7 @@ pub fn copies_back()
     ensures passes { plain lower 1 (int 5 ∷ []) [] 5 ≡ ends_with (int 4 ∷ []) }
     ensures fails_short { plain lower 1 (int 0 ∷ []) [] 4 ≡ short }
     ensures fails_on_the_way_back { plain lower 1 (int 0 ∷ []) [] 5 ≡ fails (key 8 12 kind.Range) }
-{
-}
+{}
 
 /// An actual is checked on the way in, before the body runs.
 pub fn copies_in()
@@ -24,8 +23,7 @@ pub fn copies_in()
     ensures passes { plain natural_lower 1 (int 5 ∷ []) [] 5 ≡ ends_with (int 4 ∷ []) }
     ensures in_alone { plain natural_lower 3 (number (negsuc 1) ∷ []) [] 4 ≡ fails (key 16 13 kind.Range) }
     ensures in_alone_passes { plain natural_lower 3 (number (negsuc 0) ∷ []) [] 5 ≡ ends_with (number (negsuc 0) ∷ []) }
-{
-}
+{}
 
 /// An `out` parameter, and a postcondition that is checked before the copy back.
 pub fn out_parameters()
@@ -34,8 +32,7 @@ pub fn out_parameters()
     ensures post_fails { plain (weak 0) 1 [] [] 6 ≡ fails (key 2 50 kind.Post) }
     ensures post_fails_short { plain (weak 0) 1 [] [] 5 ≡ short }
     ensures assertion_fails { plain (weak 8) 1 [] [] 10 ≡ fails (key 10 22 kind.Assert) }
-{
-}
+{}
 
 /// `'Old` is the value on entry, and `'Result` what the function gives.
 pub fn postconditions()
@@ -48,8 +45,7 @@ pub fn postconditions()
     ensures result_is_false { plain more 0 (int 5 ∷ int 0 ∷ []) [] 7 ≡ fails (key 1 60 kind.Post) }
     ensures result_in_subtype { plain down 0 (int 1 ∷ []) [] 4 ≡ gives_back (int 1 ∷ []) (int 0) }
     ensures result_out_of_subtype { plain down 0 (int 0 ∷ []) [] 4 ≡ fails (key 3 11 kind.Range) }
-{
-}
+{}
 
 /// A precondition that is False is no start of a run, and a check inside it fails as any other.
 pub fn own_preconditions()
@@ -62,8 +58,7 @@ pub fn own_preconditions()
     ensures calls_a_function_short { plain guarded 1 (int 2 ∷ []) [] 8 ≡ short }
     ensures calls_a_function_and_holds { plain guarded 1 (int 2 ∷ []) [] 9 ≡ ends_with (int 2 ∷ []) }
     ensures check_inside_the_function { plain guarded 1 (int 2147483647 ∷ []) [] 100 ≡ fails (key 4 16 kind.Overflow) }
-{
-}
+{}
 
 /// A precondition that is False at a call fails at the first token of the call.
 pub fn preconditions_of_calls()
@@ -73,24 +68,21 @@ pub fn preconditions_of_calls()
     ensures of_function { plain guarded 4 (int 0 ∷ []) [] 100 ≡ fails (key 20 16 kind.Pre) }
     ensures of_function_holds { plain guarded 4 (int 5 ∷ []) [] 10 ≡ ends_with (int 5 ∷ int 6 ∷ []) }
     ensures of_function_short { plain guarded 4 (int 5 ∷ []) [] 9 ≡ short }
-{
-}
+{}
 
 /// A recursion may spend its budget.
 pub fn recursions()
     ensures ends_short { plain sum 0 (int 3 ∷ []) [] 38 ≡ short }
     ensures ends_in_time { plain sum 0 (int 3 ∷ []) [] 39 ≡ gives_back (int 3 ∷ []) (int 6) }
     ensures without_end { plain endless 0 (int 3 ∷ []) [] 60 ≡ short }
-{
-}
+{}
 
 /// A procedure's writes of globals stay.
 pub fn globals()
     ensures both { plain count 1 [] (int 5 ∷ []) 100
         ≡ ends (record { params = Some (int 6) ∷ []; globals = Some (int 7) ∷ []; returned = None }) }
     ensures overflows { plain count 1 [] (int 2147483646 ∷ []) 100 ≡ fails (key 4 14 kind.Overflow) }
-{
-}
+{}
 
 /// Actuals are evaluated and copied back as they are written, also where they are named.
 pub fn order_of_actuals()
@@ -100,12 +92,10 @@ pub fn order_of_actuals()
     ensures positional_back { plain positional 1 (int 0 ∷ int 0 ∷ []) [] 100 ≡ fails (key 9 19 kind.Range) }
     ensures named_passes { plain named 1 (int 7 ∷ int 8 ∷ []) [] 100 ≡ ends_with (int 7 ∷ int 8 ∷ int 2 ∷ int 3 ∷ []) }
     ensures positional_passes { plain positional 1 (int 7 ∷ int 8 ∷ []) [] 100 ≡ ends_with (int 7 ∷ int 8 ∷ int 2 ∷ int 3 ∷ []) }
-{
-}
+{}
 
 /// The place of an `out` actual is fixed before the body runs.
 pub fn places_of_actuals()
     ensures stays { plain moved_index 1 (array (pos 1) (pos 3) (vals_of (int 0 ∷ int 0 ∷ int 0 ∷ [])) ∷ []) (int 2 ∷ []) 100
         ≡ ends (record { params = Some (array (pos 1) (pos 3) (vals_of (int 0 ∷ int 7 ∷ int 0 ∷ []))) ∷ []; globals = Some (int 3) ∷ []; returned = None }) }
-{
-}
+{}

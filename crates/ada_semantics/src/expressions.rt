@@ -16,8 +16,7 @@ pub fn budgets_of_inc()
     ensures three { plain inc 0 (int 5 ∷ []) [] 3 ≡ short }
     ensures four { plain inc 0 (int 5 ∷ []) [] 4 ≡ ends_with (int 6 ∷ []) }
     ensures fails_at_last { plain inc 0 (int 2147483647 ∷ []) [] 4 ≡ fails (key 3 11 kind.Overflow) }
-{
-}
+{}
 
 /// Each operator is checked by itself, though the last result fits.
 pub fn intermediate_results()
@@ -25,8 +24,7 @@ pub fn intermediate_results()
     ensures passes { plain back 0 (int 5 ∷ []) [] 6 ≡ ends_with (int 5 ∷ int 5 ∷ []) }
     ensures fails_short { plain back 0 (int 2147483647 ∷ []) [] 4 ≡ short }
     ensures fails_at_plus { plain back 0 (int 2147483647 ∷ []) [] 5 ≡ fails (key 3 12 kind.Overflow) }
-{
-}
+{}
 
 /// `/` truncates toward zero, `rem` has the sign of the dividend, `mod` that of the divisor.
 pub fn divisions()
@@ -39,8 +37,7 @@ pub fn divisions()
     ensures by_zero { plain divide 0 (int 7 ∷ int 0 ∷ int 0 ∷ int 0 ∷ int 0 ∷ []) [] 100 ≡ fails (key 3 21 kind.Division) }
     ensures overflows { plain divide 0 (number (negsuc 2147483647) ∷ number (negsuc 0) ∷ int 0 ∷ int 0 ∷ int 0 ∷ []) [] 100
         ≡ fails (key 3 21 kind.Overflow) }
-{
-}
+{}
 
 /// A conversion checks its operand, and a modular operation wraps.
 pub fn modular_types()
@@ -51,8 +48,7 @@ pub fn modular_types()
     ensures first { plain wrap 0 (int 0 ∷ []) [] 7 ≡ ends_with (int 0 ∷ []) }
     ensures last { plain wrap 0 (int 255 ∷ []) [] 7 ≡ ends_with (int 255 ∷ []) }
     ensures wraps { plain modular 0 (int 200 ∷ []) [] 100 ≡ ends_with (int 200 ∷ int 44 ∷ int 156 ∷ int 88 ∷ int 56 ∷ []) }
-{
-}
+{}
 
 /// A result is checked against the base range, and an assigned value against the subtype.
 pub fn base_ranges_and_subtypes()
@@ -63,8 +59,7 @@ pub fn base_ranges_and_subtypes()
     ensures within_subtype { plain next 0 (int 99 ∷ []) [] 100 ≡ ends_with (int 99 ∷ int 100 ∷ []) }
     ensures past_base { plain after 0 (int 2147483647 ∷ []) [] 100 ≡ fails (key 3 16 kind.Range) }
     ensures within_base { plain after 0 (number (negsuc 0) ∷ []) [] 100 ≡ ends_with (number (negsuc 0) ∷ int 0 ∷ []) }
-{
-}
+{}
 
 /// An exponent isn't below 0.
 pub fn powers()
@@ -72,8 +67,7 @@ pub fn powers()
     ensures nothing { plain power 0 (int 0 ∷ int 0 ∷ []) [] 100 ≡ ends_with (int 0 ∷ int 0 ∷ int 1 ∷ []) }
     ensures cube { plain power 0 (number (negsuc 1) ∷ int 3 ∷ []) [] 100 ≡ ends_with (number (negsuc 1) ∷ int 3 ∷ number (negsuc 7) ∷ []) }
     ensures overflows { plain power 0 (int 2 ∷ int 31 ∷ []) [] 100 ≡ fails (key 3 11 kind.Overflow) }
-{
-}
+{}
 
 /// Only the branch that is taken is evaluated.
 pub fn choices()
@@ -82,8 +76,7 @@ pub fn choices()
     ensures negative { plain size 0 (number (negsuc 4) ∷ []) [] 7 ≡ ends_with (number (negsuc 4) ∷ int 5 ∷ []) }
     ensures negative_short { plain size 0 (number (negsuc 4) ∷ []) [] 6 ≡ short }
     ensures overflows { plain size 0 (number (negsuc 2147483647) ∷ []) [] 100 ≡ fails (key 3 31 kind.Overflow) }
-{
-}
+{}
 
 /// A membership evaluates its operand and both bounds.
 pub fn memberships()
@@ -91,8 +84,7 @@ pub fn memberships()
     ensures inner_short { plain inside 0 (int 3 ∷ int 3 ∷ []) [] 9 ≡ short }
     ensures outer { plain inside 0 (int 0 ∷ int 3 ∷ []) [] 10 ≡ ends_with (int 0 ∷ int 3 ∷ truth false ∷ truth true ∷ []) }
     ensures of_none { plain inside 0 (int 1 ∷ int 0 ∷ []) [] 10 ≡ ends_with (int 1 ∷ int 0 ∷ truth false ∷ truth true ∷ []) }
-{
-}
+{}
 
 /// A short-circuit form stops before the division by zero, and `and` and `or` don't.
 pub fn short_circuits()
@@ -105,8 +97,7 @@ pub fn short_circuits()
     ensures or_else_fails { plain (guard connective.OrElse) 0 (int 0 ∷ []) [] 100 ≡ fails (key 3 23 kind.Division) }
     ensures or_fails { plain (guard connective.Or) 0 (int 0 ∷ []) [] 100 ≡ fails (key 3 23 kind.Division) }
     ensures xor { plain (guard connective.Xor) 0 (int 5 ∷ []) [] 10 ≡ ends_with (int 5 ∷ truth false ∷ []) }
-{
-}
+{}
 
 /// A quantified expression stops at the first index that decides.
 pub fn quantifiers()
@@ -116,5 +107,4 @@ pub fn quantifiers()
     ensures to_the_end { plain search_both 0 (int 6 ∷ []) [] 48 ≡ ends_with (int 6 ∷ truth true ∷ truth false ∷ []) }
     ensures null_ranges_short { plain empty_ranges 0 [] [] 7 ≡ short }
     ensures null_ranges { plain empty_ranges 0 [] [] 8 ≡ ends_with (truth true ∷ truth false ∷ []) }
-{
-}
+{}

@@ -17,8 +17,7 @@ pub fn invariant_that_is_not_kept()
     ensures one { plain climb 0 (int 1 ∷ []) [] 24 ≡ ends_with (int 1 ∷ int 1 ∷ []) }
     ensures two_short { plain climb 0 (int 2 ∷ []) [] 28 ≡ short }
     ensures two { plain climb 0 (int 2 ∷ []) [] 29 ≡ fails (key 6 30 kind.InvKept) }
-{
-}
+{}
 
 /// An invariant in the middle of a loop's body, which fails in the first turn that reaches it, or in a later one.
 pub fn invariant_in_the_middle()
@@ -26,8 +25,7 @@ pub fn invariant_in_the_middle()
     ensures not_reached { plain (mid relation.Less) 0 (int 0 ∷ []) [] 100 ≡ ends_with (int 0 ∷ int 0 ∷ []) }
     ensures first { plain (mid relation.Less) 0 (int 1 ∷ []) [] 100 ≡ fails (key 7 30 kind.InvFirst) }
     ensures later { plain (mid relation.Less) 0 (int 2 ∷ []) [] 100 ≡ fails (key 7 30 kind.InvKept) }
-{
-}
+{}
 
 /// A `for` loop goes upwards, or downwards in reverse, over a range that is evaluated once.
 pub fn ranges_of_loops()
@@ -37,8 +35,7 @@ pub fn ranges_of_loops()
     ensures upwards { plain (digits false) 0 [] [] 26 ≡ ends_with (int 123 ∷ []) }
     ensures downwards { plain (digits true) 0 [] [] 26 ≡ ends_with (int 321 ∷ []) }
     ensures bounds { plain once 0 (int 3 ∷ []) [] 100 ≡ ends_with (int 0 ∷ int 3 ∷ []) }
-{
-}
+{}
 
 /// `exit` ends the innermost loop, and `return` the subprogram.
 pub fn ways_out()
@@ -49,8 +46,7 @@ pub fn ways_out()
     ensures falls_out { plain above 0 (int 200 ∷ []) [] 200 ≡ gives_back (int 200 ∷ []) (int 0) }
     ensures inner_exit { plain inner 0 [] [] 200 ≡ ends_with (int 3 ∷ []) }
     ensures no_way_out { plain stay 0 [] [] 200 ≡ short }
-{
-}
+{}
 
 /// A variant moves in its direction against the last turn, or the next expression does where the first stays.
 pub fn variants()
@@ -63,13 +59,11 @@ pub fn variants()
     ensures upwards { plain rise 0 (int 3 ∷ []) [] 100 ≡ ends_with (int 3 ∷ []) }
     ensures second_falls { plain (steps (local 0) (local 1)) 0 [] [] 200 ≡ ends_with [] }
     ensures first_rises { plain (steps (local 1) (local 0)) 0 [] [] 200 ≡ fails (key 6 41 kind.Variant) }
-{
-}
+{}
 
 /// `'Loop_Entry` is the value when the loop was entered.
 pub fn values_on_loop_entry()
     ensures kept { plain add 0 (int 3 ∷ int 1 ∷ int 5 ∷ []) [] 100 ≡ ends_with (int 3 ∷ int 1 ∷ int 8 ∷ []) }
     ensures not_kept { plain add 0 (int 3 ∷ int 2 ∷ int 5 ∷ []) [] 100 ≡ fails (key 4 30 kind.InvKept) }
     ensures one_turn { plain add 0 (int 1 ∷ int 2 ∷ int 5 ∷ []) [] 100 ≡ ends_with (int 1 ∷ int 2 ∷ int 7 ∷ []) }
-{
-}
+{}

@@ -3,8 +3,9 @@
 ghost use Rattle.std.specs.Prelude.{◌≡◌, [], ◌∷◌, true, false, pos, negsuc};
 ghost use Rattle.ada_values.specs.Value.{number, truth, array};
 ghost use Rattle.typed_units.specs.declared.checks.CheckKind.TheVariants as kind;
-ghost use Rattle.ada_semantics.specs.Plain.{plain, fails, short, reads_unset};
-ghost use Rattle.ada_semantics.specs.Cases.{key, int, ends_with};
+ghost use Rattle.ada_semantics.specs.Plain.{plain, fails, short, not_a_start, reads_unset};
+ghost use Rattle.ada_semantics.specs.Cases.{key, int, ends_with, gives_back};
+ghost use Rattle.ada_semantics.specs.Cases.Search.{find};
 ghost use Rattle.ada_semantics.specs.Cases.Parts.{integers, row, p, table, zeros, store, early, bounds, count, above, fill, both_ends, all_given, none_given, written, same_all, parts, copy, half, given_parts, deep, lend};
 
 /// An index is checked where it stands, that of a target before the value that is assigned.
@@ -17,16 +18,14 @@ pub fn items()
     ensures part_of_part_short { plain deep 0 (table (p 1 2) (p 3 4) ∷ int 2 ∷ []) [] 10 ≡ short }
     ensures part_of_part { plain deep 0 (table (p 1 2) (p 3 4) ∷ int 2 ∷ []) [] 11 ≡ ends_with (table (p 1 2) (p 3 1) ∷ int 2 ∷ int 1 ∷ []) }
     ensures part_of_part_fails { plain deep 0 (table (p 1 2) (p 3 4) ∷ int 0 ∷ []) [] 11 ≡ fails (key 3 7 kind.Index) }
-{
-}
+{}
 
 /// An array that was never set has no part to write, which comes after the checks of the indexes.
 pub fn unset_arrays()
     ensures index_fails { plain early 0 (int 4 ∷ []) [] 2 ≡ fails (key 4 7 kind.Index) }
     ensures no_array { plain early 0 (int 1 ∷ []) [] 2 ≡ reads_unset }
     ensures no_array_short { plain early 0 (int 1 ∷ []) [] 1 ≡ short }
-{
-}
+{}
 
 /// An array without items has length 0, and a length is checked against the base range.
 pub fn bounds_of_arrays()
@@ -42,8 +41,7 @@ pub fn bounds_of_arrays()
         ≡ ends_with (integers (pos 3) (pos 5) (int 1 ∷ int 0 ∷ int 9 ∷ []) ∷ truth false ∷ []) }
     ensures over_items_short { plain above 0 (integers (pos 3) (pos 5) (int 1 ∷ int 0 ∷ int 9 ∷ []) ∷ []) [] 17 ≡ short }
     ensures over_none { plain above 0 (integers (pos 3) (pos 2) [] ∷ []) [] 6 ≡ ends_with (integers (pos 3) (pos 2) [] ∷ truth true ∷ []) }
-{
-}
+{}
 
 /// Each association of an aggregate is evaluated once, and not at all where it gives nothing.
 pub fn aggregates()
@@ -59,8 +57,19 @@ pub fn aggregates()
     ensures of_records_short { plain given_parts 0 (int 5 ∷ []) [] 10 ≡ short }
     ensures of_records { plain given_parts 0 (int 5 ∷ []) [] 11 ≡ ends_with (int 5 ∷ p 5 2 ∷ p 5 5 ∷ truth false ∷ []) }
     ensures equal_records { plain given_parts 0 (int 2 ∷ []) [] 11 ≡ ends_with (int 2 ∷ p 2 2 ∷ p 2 2 ∷ truth true ∷ []) }
-{
-}
+{}
+
+/// Binary search, null arrays included.
+pub fn searches()
+    ensures found { plain find 0 (integers (pos 1) (pos 5) (int 1 ∷ int 3 ∷ int 5 ∷ int 7 ∷ int 9 ∷ []) ∷ int 7 ∷ []) [] 400
+        ≡ gives_back (integers (pos 1) (pos 5) (int 1 ∷ int 3 ∷ int 5 ∷ int 7 ∷ int 9 ∷ []) ∷ int 7 ∷ []) (int 4) }
+    ensures not_found { plain find 0 (integers (pos 3) (pos 5) (int 2 ∷ int 4 ∷ int 6 ∷ []) ∷ int 5 ∷ []) [] 400
+        ≡ gives_back (integers (pos 3) (pos 5) (int 2 ∷ int 4 ∷ int 6 ∷ []) ∷ int 5 ∷ []) (int 0) }
+    ensures in_null_array { plain find 0 (integers (pos 5) (pos 4) [] ∷ int 5 ∷ []) [] 400 ≡ gives_back (integers (pos 5) (pos 4) [] ∷ int 5 ∷ []) (int 0) }
+    ensures below_the_first { plain find 0 (integers (pos 1) (pos 2) (int 2 ∷ int 4 ∷ []) ∷ int 1 ∷ []) [] 400
+        ≡ gives_back (integers (pos 1) (pos 2) (int 2 ∷ int 4 ∷ []) ∷ int 1 ∷ []) (int 0) }
+    ensures no_start { plain find 0 (integers (pos 2147483647) (pos 2147483647) (int 2 ∷ []) ∷ int 1 ∷ []) [] 400 ≡ not_a_start }
+{}
 
 /// A record is set component by component, and read whole where each of them is set.
 pub fn records()
@@ -71,5 +80,4 @@ pub fn records()
     ensures not_whole_short { plain half 0 (int 5 ∷ []) [] 3 ≡ short }
     ensures lends_a_part { plain lend 1 (int 5 ∷ []) [] 10 ≡ ends_with (int 5 ∷ int 6 ∷ []) }
     ensures lends_a_part_short { plain lend 1 (int 5 ∷ []) [] 9 ≡ short }
-{
-}
+{}

@@ -1,7 +1,6 @@
 -- Sample programs with calls and contracts.
-use Rattle.std.specs.Prelude.{ℕ, Bool, true, false, List, [], ◌∷◌, Option, Some, None, ℤ, pos, negsuc}
-use Rattle.typed_units.specs.declared.programs.Mode.TheVariants as mode
-use Rattle.typed_units.specs.Syntax.{Var, param, local, global, answer, entry, present, Fit, Ex, at, read, call, Exs, no_exs, fitted, Actual, pass_in, pass_out, pass_in_out, to_item, St, st, skip, Formal, Routine, Text}
+use Rattle.std.specs.Prelude.{ℕ, true, [], ◌∷◌, Some, None, pos}
+use Rattle.typed_units.specs.Syntax.{Var, param, local, global, answer, entry, present, Fit, Ex, at, read, call, no_exs, fitted, Actual, pass_in, pass_out, pass_in_out, to_item, st, skip, Routine, Text}
 use Rattle.ada_semantics.specs.Cases.{place, to, num, name, plus, minus, times, equal, greater, whole_of, part_of, set_to, call_of, claim, give_back, if_so, natural, by_in, by_out, by_in_out, procedure_of, function_of, with_pre, with_post, program, one}
 
 -- an actual of mode `in`, `out` and `in out`, for the parameter k
@@ -30,7 +29,7 @@ result_at l c q fit e = at (place l c) (call q (fitted 0 fit e no_exs))
 -- 10  end Lower;
 abbrev pub lower : Text
 lower = program
-    ( procedure_of (by_in_out ∷ []) (set_to 4 7 (param 0) None (minus 4 14 (name 4 12 (param 0)) (num 4 16 1)) ∷ [])
+    (procedure_of (by_in_out ∷ []) (set_to 4 7 (param 0) None (minus 4 14 (name 4 12 (param 0)) (num 4 16 1)) ∷ [])
     ∷ procedure_of (by_in_out ∷ []) (call_of 8 7 0 (lending 0 8 12 (param 0) None natural ∷ []) ∷ []) ∷ [])
 
 --  1  package body Natural_Lower is
@@ -53,7 +52,7 @@ lower = program
 -- 18  end Natural_Lower;
 abbrev pub natural_lower : Text
 natural_lower = program
-    ( procedure_of (by_in_out ∷ []) (set_to 4 7 (param 0) natural (minus 4 14 (name 4 12 (param 0)) (num 4 16 1)) ∷ [])
+    (procedure_of (by_in_out ∷ []) (set_to 4 7 (param 0) natural (minus 4 14 (name 4 12 (param 0)) (num 4 16 1)) ∷ [])
     ∷ procedure_of (by_in_out ∷ []) (call_of 8 7 0 (lending 0 8 12 (param 0) natural None ∷ []) ∷ [])
     ∷ procedure_of (by_in ∷ []) (st (place 12 7) skip ∷ [])
     ∷ procedure_of (by_in ∷ []) (call_of 16 7 2 (passing 0 natural (plus 16 15 (name 16 13 (param 0)) (num 16 17 1)) ∷ []) ∷ []) ∷ [])
@@ -73,7 +72,7 @@ natural_lower = program
 -- 12  end Weak;
 abbrev pub weak : ℕ → Text
 weak x = program
-    ( with_post (greater (name 2 50 (param 0)) (num 2 54 0)) (procedure_of (by_out ∷ []) (set_to 4 7 (param 0) None (num 4 12 x) ∷ []))
+    (with_post (greater (name 2 50 (param 0)) (num 2 54 0)) (procedure_of (by_out ∷ []) (set_to 4 7 (param 0) None (num 4 12 x) ∷ []))
     ∷ procedure_of [] (call_of 9 7 0 (getting 0 9 13 (local 0) None ∷ []) ∷ claim 10 7 (equal (name 10 22 (local 0)) (num 10 26 7)) ∷ []) ∷ [])
 
 --  1  procedure Inc (X : in out Integer; D : in Integer) with Post => X = X'Old + 1 is
@@ -123,7 +122,7 @@ low = one (with_pre (greater (plus 1 46 (name 1 44 (param 0)) (num 1 48 1)) (num
 -- 22  end Guarded;
 abbrev pub guarded : Text
 guarded = program
-    ( function_of (by_in ∷ []) (give_back 4 7 None (times 4 16 (num 4 14 2) (name 4 18 (param 0))) ∷ [])
+    (function_of (by_in ∷ []) (give_back 4 7 None (times 4 16 (num 4 14 2) (name 4 18 (param 0))) ∷ [])
     ∷ with_pre (greater (result_at 6 48 0 None (name 6 55 (param 0))) (num 6 60 2)) (procedure_of (by_in ∷ []) (st (place 8 7) skip ∷ []))
     ∷ procedure_of (by_in ∷ []) (call_of 12 7 1 (passing 0 None (name 12 13 (param 0)) ∷ []) ∷ [])
     ∷ with_pre (greater (name 14 59 (param 0)) (num 14 63 0)) (function_of (by_in ∷ []) (give_back 16 7 None (name 16 14 (param 0)) ∷ []))
@@ -138,7 +137,7 @@ guarded = program
 --  7  end Sum;
 abbrev pub sum : Text
 sum = one (function_of (by_in ∷ [])
-    ( if_so 3 4 (equal (name 3 7 (param 0)) (num 3 11 0)) (give_back 4 7 None (num 4 14 0) ∷ []) []
+    (if_so 3 4 (equal (name 3 7 (param 0)) (num 3 11 0)) (give_back 4 7 None (num 4 14 0) ∷ []) []
     ∷ give_back 6 4 natural (plus 6 23 (result_at 6 11 0 natural (minus 6 18 (name 6 16 (param 0)) (num 6 20 1))) (name 6 25 (param 0))) ∷ []))
 
 --  1  function F (X : Integer) return Integer is
@@ -168,9 +167,13 @@ down = one (function_of (by_in ∷ []) (give_back 3 4 natural (minus 3 13 (name 
 -- 11     end Both;
 -- 12  end Count;
 abbrev pub count : Text
-count = record { shapes = []; globals = 0 ∷ []; routines =
-    procedure_of [] (set_to 4 7 (global 0) None (plus 4 14 (name 4 12 (global 0)) (num 4 16 1)) ∷ [])
-    ∷ procedure_of (by_out ∷ []) (call_of 8 7 0 [] ∷ set_to 9 7 (param 0) None (name 9 12 (global 0)) ∷ call_of 10 7 0 [] ∷ []) ∷ [] }
+count = record {
+  shapes = [];
+  globals = 0 ∷ [];
+  routines =
+      procedure_of [] (set_to 4 7 (global 0) None (plus 4 14 (name 4 12 (global 0)) (num 4 16 1)) ∷ [])
+      ∷ procedure_of (by_out ∷ []) (call_of 8 7 0 [] ∷ set_to 9 7 (param 0) None (name 9 12 (global 0)) ∷ call_of 10 7 0 [] ∷ []) ∷ [];
+}
 
 --  1  package body Order is
 --  2     procedure Pair (A, B : in Natural; X, Y : out Integer) is
@@ -185,17 +188,17 @@ count = record { shapes = []; globals = 0 ∷ []; routines =
 -- 11  end Order;
 abbrev pub pair : Routine
 pair = procedure_of (by_in ∷ by_in ∷ by_out ∷ by_out ∷ [])
-    ( set_to 4 7 (param 2) None (minus 4 14 (name 4 12 (param 0)) (num 4 16 5))
+    (set_to 4 7 (param 2) None (minus 4 14 (name 4 12 (param 0)) (num 4 16 5))
     ∷ set_to 5 7 (param 3) None (minus 5 14 (name 5 12 (param 1)) (num 5 16 5)) ∷ [])
 
 abbrev pub named : Text
 named = program (pair ∷ procedure_of (by_in ∷ by_in ∷ by_out ∷ by_out ∷ []) (call_of 9 7 0
-    ( passing 0 natural (name 9 13 (param 0)) ∷ passing 1 natural (name 9 21 (param 1))
+    (passing 0 natural (name 9 13 (param 0)) ∷ passing 1 natural (name 9 21 (param 1))
     ∷ getting 3 9 29 (param 3) natural ∷ getting 2 9 37 (param 2) natural ∷ []) ∷ []) ∷ [])
 
 abbrev pub positional : Text
 positional = program (pair ∷ procedure_of (by_in ∷ by_in ∷ by_out ∷ by_out ∷ []) (call_of 9 7 0
-    ( passing 0 natural (name 9 13 (param 0)) ∷ passing 1 natural (name 9 16 (param 1))
+    (passing 0 natural (name 9 13 (param 0)) ∷ passing 1 natural (name 9 16 (param 1))
     ∷ getting 2 9 19 (param 2) natural ∷ getting 3 9 22 (param 3) natural ∷ []) ∷ []) ∷ [])
 
 --  1  package body Moved is   -- I : Integer in the package's specification
@@ -210,7 +213,11 @@ positional = program (pair ∷ procedure_of (by_in ∷ by_in ∷ by_out ∷ by_o
 -- 10     end Go;
 -- 11  end Moved;
 abbrev pub moved_index : Text
-moved_index = record { shapes = []; globals = 0 ∷ []; routines =
-    procedure_of (by_out ∷ []) (set_to 4 7 (param 0) None (num 4 12 7) ∷ set_to 5 7 (global 0) None (num 5 12 3) ∷ [])
-    ∷ procedure_of (by_in_out ∷ []) (call_of 9 7 0
-        (pass_out 0 (part_of 9 12 (param 0) (to_item (Some (to (pos 1) (pos 3))) true (name 9 15 (global 0)) ∷ [])) None ∷ []) ∷ []) ∷ [] }
+moved_index = record {
+  shapes = [];
+  globals = 0 ∷ [];
+  routines =
+      procedure_of (by_out ∷ []) (set_to 4 7 (param 0) None (num 4 12 7) ∷ set_to 5 7 (global 0) None (num 5 12 3) ∷ [])
+      ∷ procedure_of (by_in_out ∷ []) (call_of 9 7 0
+      (pass_out 0 (part_of 9 12 (param 0) (to_item (Some (to (pos 1) (pos 3))) true (name 9 15 (global 0)) ∷ [])) None ∷ []) ∷ []) ∷ [];
+}

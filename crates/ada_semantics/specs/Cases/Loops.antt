@@ -1,10 +1,10 @@
 -- Sample programs with loops.
-use Rattle.std.specs.Prelude.{ℕ, Bool, true, false, List, [], ◌∷◌, Option, Some, None, ℤ, pos, negsuc}
+use Rattle.std.specs.Prelude.{ℕ, Bool, false, [], ◌∷◌, None}
 use Rattle.typed_units.specs.declared.operators.Relation.{Relation}
 use Rattle.typed_units.specs.declared.operators.Relation.TheVariants as relation
 use Rattle.typed_units.specs.declared.statements.Direction.{Direction}
 use Rattle.typed_units.specs.declared.statements.Direction.TheVariants as direction
-use Rattle.typed_units.specs.Syntax.{Var, param, local, turn, loop_entry, Ex, at, read, Way, St, st, skip, loop, forever, while, for, invariant, variant, done, exit, exit_when, Text}
+use Rattle.typed_units.specs.Syntax.{Var, param, local, turn, loop_entry, at, read, Way, st, skip, loop, forever, while, for, invariant, variant, done, exit, exit_when, Text}
 use Rattle.ada_semantics.specs.Cases.{place, num, flag, name, plus, minus, times, related, equal, less, greater, seq, set_to, claim, give_back, if_so, natural, by_in, by_out, by_in_out, procedure_of, function_of, with_opening, one}
 
 --  1  procedure Climb (N : in Natural; S : out Natural) is
@@ -19,11 +19,11 @@ use Rattle.ada_semantics.specs.Cases.{place, num, flag, name, plus, minus, times
 -- 10  end Climb;
 abbrev pub climb : Text
 climb = one (with_opening (set_to 2 4 (local 0) None (num 2 19 0) ∷ []) (procedure_of (by_in ∷ by_out ∷ [])
-    ( set_to 4 4 (param 1) None (num 4 9 0)
+    (set_to 4 4 (param 1) None (num 4 9 0)
     ∷ st (place 5 4) (loop 0 (while (less (name 5 10 (local 0)) (name 5 14 (param 0)))) done
-        (invariant (equal (name 6 30 (param 1)) (num 6 34 0)) ∷ [])
-        (seq (set_to 7 7 (local 0) natural (plus 7 14 (name 7 12 (local 0)) (num 7 16 1))
-            ∷ set_to 8 7 (param 1) natural (plus 8 14 (name 8 12 (param 1)) (num 8 16 1)) ∷ [])))
+    (invariant (equal (name 6 30 (param 1)) (num 6 34 0)) ∷ [])
+    (seq (set_to 7 7 (local 0) natural (plus 7 14 (name 7 12 (local 0)) (num 7 16 1))
+    ∷ set_to 8 7 (param 1) natural (plus 8 14 (name 8 12 (param 1)) (num 8 16 1)) ∷ [])))
     ∷ [])))
 
 --  1  procedure Mid (A : in Natural; R : out Natural) is
@@ -38,11 +38,11 @@ climb = one (with_opening (set_to 2 4 (local 0) None (num 2 19 0) ∷ []) (proce
 -- or with another relation in place of `<=`
 abbrev pub mid : Relation → Text
 mid r = one (procedure_of (by_in ∷ by_out ∷ [])
-    ( set_to 3 4 (param 1) None (num 3 9 0)
+    (set_to 3 4 (param 1) None (num 3 9 0)
     ∷ st (place 4 4) (loop 0 forever
-        (seq (st (place 5 7) (exit_when (equal (name 5 17 (param 1)) (name 5 21 (param 0))))
-            ∷ set_to 6 7 (param 1) natural (plus 6 14 (name 6 12 (param 1)) (num 6 16 1)) ∷ []))
-        (invariant (related r (name 7 30 (param 1)) (name 7 35 (param 0))) ∷ []) done)
+    (seq (st (place 5 7) (exit_when (equal (name 5 17 (param 1)) (name 5 21 (param 0))))
+    ∷ set_to 6 7 (param 1) natural (plus 6 14 (name 6 12 (param 1)) (num 6 16 1)) ∷ []))
+    (invariant (related r (name 7 30 (param 1)) (name 7 35 (param 0))) ∷ []) done)
     ∷ []))
 
 --  1  procedure Never is
@@ -64,9 +64,9 @@ never = one (procedure_of [] (st (place 3 4) (loop 0 (for false 0 (num 3 13 5) (
 --  7  end Digits;
 abbrev pub digits : Bool → Text
 digits reversed = one (procedure_of (by_out ∷ [])
-    ( set_to 3 4 (param 0) None (num 3 9 0)
+    (set_to 3 4 (param 0) None (num 3 9 0)
     ∷ st (place 4 4) (loop 0 (for reversed 0 (num 4 13 1) (num 4 18 3)) done []
-        (seq (set_to 5 7 (param 0) None (plus 5 19 (times 5 15 (num 5 12 10) (name 5 17 (param 0))) (name 5 21 (turn 0))) ∷ [])))
+    (seq (set_to 5 7 (param 0) None (plus 5 19 (times 5 15 (num 5 12 10) (name 5 17 (param 0))) (name 5 21 (turn 0))) ∷ [])))
     ∷ []))
 
 --  1  procedure Once (N : in out Integer; C : out Integer) is
@@ -79,9 +79,9 @@ digits reversed = one (procedure_of (by_out ∷ [])
 --  8  end Once;
 abbrev pub once : Text
 once = one (procedure_of (by_in_out ∷ by_out ∷ [])
-    ( set_to 3 4 (param 1) None (num 3 9 0)
+    (set_to 3 4 (param 1) None (num 3 9 0)
     ∷ st (place 4 4) (loop 0 (for false 0 (num 4 13 1) (name 4 18 (param 0))) done []
-        (seq (set_to 5 7 (param 0) None (num 5 12 0) ∷ set_to 6 7 (param 1) None (plus 6 14 (name 6 12 (param 1)) (num 6 16 1)) ∷ [])))
+    (seq (set_to 5 7 (param 0) None (num 5 12 0) ∷ set_to 6 7 (param 1) None (plus 6 14 (name 6 12 (param 1)) (num 6 16 1)) ∷ [])))
     ∷ []))
 
 --  1  function Root (N : Integer) return Integer is
@@ -95,9 +95,9 @@ once = one (procedure_of (by_in_out ∷ by_out ∷ [])
 --  9  end Root;
 abbrev pub root : Text
 root = one (with_opening (set_to 2 4 (local 0) None (num 2 19 0) ∷ []) (function_of (by_in ∷ [])
-    ( st (place 4 4) (loop 0 forever done []
-        (seq (st (place 5 7) (exit_when (related relation.AtLeast (times 5 19 (name 5 17 (local 0)) (name 5 21 (local 0))) (name 5 26 (param 0))))
-            ∷ set_to 6 7 (local 0) None (plus 6 14 (name 6 12 (local 0)) (num 6 16 1)) ∷ [])))
+    (st (place 4 4) (loop 0 forever done []
+    (seq (st (place 5 7) (exit_when (related relation.AtLeast (times 5 19 (name 5 17 (local 0)) (name 5 21 (local 0))) (name 5 26 (param 0))))
+    ∷ set_to 6 7 (local 0) None (plus 6 14 (name 6 12 (local 0)) (num 6 16 1)) ∷ [])))
     ∷ give_back 8 4 None (name 8 11 (local 0)) ∷ [])))
 
 --  1  function Above (N : Integer) return Integer is
@@ -111,9 +111,9 @@ root = one (with_opening (set_to 2 4 (local 0) None (num 2 19 0) ∷ []) (functi
 --  9  end Above;
 abbrev pub above : Text
 above = one (function_of (by_in ∷ [])
-    ( st (place 3 4) (loop 0 (for false 0 (num 3 13 1) (num 3 18 10)) done []
-        (seq (if_so 4 7 (greater (times 4 12 (name 4 10 (turn 0)) (name 4 14 (turn 0))) (name 4 18 (param 0)))
-            (give_back 5 10 None (name 5 17 (turn 0)) ∷ []) [] ∷ [])))
+    (st (place 3 4) (loop 0 (for false 0 (num 3 13 1) (num 3 18 10)) done []
+    (seq (if_so 4 7 (greater (times 4 12 (name 4 10 (turn 0)) (name 4 14 (turn 0))) (name 4 18 (param 0)))
+    (give_back 5 10 None (name 5 17 (turn 0)) ∷ []) [] ∷ [])))
     ∷ give_back 8 4 None (num 8 11 0) ∷ []))
 
 --  1  procedure Inner (C : out Integer) is
@@ -130,11 +130,11 @@ above = one (function_of (by_in ∷ [])
 -- 12  end Inner;
 abbrev pub inner : Text
 inner = one (procedure_of (by_out ∷ [])
-    ( set_to 3 4 (param 0) None (num 3 9 0)
+    (set_to 3 4 (param 0) None (num 3 9 0)
     ∷ st (place 4 4) (loop 0 (for false 0 (num 4 13 1) (num 4 18 3)) done [] (seq
-        (st (place 5 7) (loop 1 (for false 1 (num 5 16 1) (num 5 21 3)) done [] (seq
-          ( if_so 6 10 (equal (name 6 13 (turn 1)) (num 6 17 2)) (st (place 7 13) exit ∷ []) []
-          ∷ set_to 9 10 (param 0) None (plus 9 17 (name 9 15 (param 0)) (num 9 19 1)) ∷ []))) ∷ [])))
+    (st (place 5 7) (loop 1 (for false 1 (num 5 16 1) (num 5 21 3)) done [] (seq
+    (if_so 6 10 (equal (name 6 13 (turn 1)) (num 6 17 2)) (st (place 7 13) exit ∷ []) []
+    ∷ set_to 9 10 (param 0) None (plus 9 17 (name 9 15 (param 0)) (num 9 19 1)) ∷ []))) ∷ [])))
     ∷ []))
 
 --  1  procedure Stay is
@@ -157,8 +157,8 @@ stay = one (procedure_of [] (st (place 3 4) (loop 0 forever done [] (seq (st (pl
 abbrev pub sink : Direction → Text
 sink d = one (with_opening (set_to 2 4 (local 0) None (name 2 19 (param 0)) ∷ []) (procedure_of (by_in ∷ by_in ∷ [])
     (st (place 4 4) (loop 0 (while (greater (name 4 10 (local 0)) (num 4 14 0))) done
-      (variant (record { direction = d; value = name 5 41 (local 0) } ∷ []) ∷ [])
-      (seq (set_to 6 7 (local 0) natural (minus 6 14 (name 6 12 (local 0)) (name 6 16 (param 1))) ∷ []))) ∷ [])))
+    (variant (record { direction = d; value = name 5 41 (local 0) } ∷ []) ∷ [])
+    (seq (set_to 6 7 (local 0) natural (minus 6 14 (name 6 12 (local 0)) (name 6 16 (param 1))) ∷ []))) ∷ [])))
 
 --  1  procedure Rise (N : in Natural) is
 --  2     I : Natural := 0;
@@ -171,8 +171,8 @@ sink d = one (with_opening (set_to 2 4 (local 0) None (name 2 19 (param 0)) ∷ 
 abbrev pub rise : Text
 rise = one (with_opening (set_to 2 4 (local 0) None (num 2 19 0) ∷ []) (procedure_of (by_in ∷ [])
     (st (place 4 4) (loop 0 (while (less (name 4 10 (local 0)) (name 4 14 (param 0)))) done
-      (variant (record { direction = direction.Increases; value = name 5 41 (local 0) } ∷ []) ∷ [])
-      (seq (set_to 6 7 (local 0) natural (plus 6 14 (name 6 12 (local 0)) (num 6 16 1)) ∷ []))) ∷ [])))
+    (variant (record { direction = direction.Increases; value = name 5 41 (local 0) } ∷ []) ∷ [])
+    (seq (set_to 6 7 (local 0) natural (plus 6 14 (name 6 12 (local 0)) (num 6 16 1)) ∷ []))) ∷ [])))
 
 abbrev pub falls : ℕ → Var → Way
 falls c x = record { direction = direction.Decreases; value = name 6 c x }
@@ -194,10 +194,10 @@ falls c x = record { direction = direction.Decreases; value = name 6 c x }
 abbrev pub steps : Var → Var → Text
 steps x y = one (with_opening (set_to 2 4 (local 0) None (num 2 19 2) ∷ set_to 3 4 (local 1) None (num 3 19 2) ∷ []) (procedure_of []
     (st (place 5 4) (loop 0 (while (greater (name 5 10 (local 0)) (num 5 14 0))) done
-      (variant (falls 41 x ∷ falls 57 y ∷ []) ∷ [])
-      (seq (if_so 7 7 (greater (name 7 10 (local 1)) (num 7 14 0))
-        (set_to 8 10 (local 1) None (minus 8 17 (name 8 15 (local 1)) (num 8 19 1)) ∷ [])
-        (set_to 10 10 (local 0) None (minus 10 17 (name 10 15 (local 0)) (num 10 19 1)) ∷ set_to 11 10 (local 1) None (num 11 15 2) ∷ []) ∷ []))) ∷ [])))
+    (variant (falls 41 x ∷ falls 57 y ∷ []) ∷ [])
+    (seq (if_so 7 7 (greater (name 7 10 (local 1)) (num 7 14 0))
+    (set_to 8 10 (local 1) None (minus 8 17 (name 8 15 (local 1)) (num 8 19 1)) ∷ [])
+    (set_to 10 10 (local 0) None (minus 10 17 (name 10 15 (local 0)) (num 10 19 1)) ∷ set_to 11 10 (local 1) None (num 11 15 2) ∷ []) ∷ []))) ∷ [])))
 
 --  1  procedure Add (N : in Natural; K : in Integer; S : in out Integer) is
 --  2  begin
@@ -209,6 +209,6 @@ steps x y = one (with_opening (set_to 2 4 (local 0) None (num 2 19 2) ∷ set_to
 abbrev pub add : Text
 add = one (procedure_of (by_in ∷ by_in ∷ by_in_out ∷ [])
     (st (place 3 4) (loop 0 (for false 0 (num 3 13 1) (name 3 18 (param 0))) done
-      (invariant (equal (name 4 30 (param 2))
-        (minus 4 51 (plus 4 47 (at (place 4 34) (read (loop_entry 0) (param 2))) (name 4 49 (turn 0))) (num 4 53 1))) ∷ [])
-      (seq (set_to 5 7 (param 2) None (plus 5 14 (name 5 12 (param 2)) (name 5 16 (param 1))) ∷ []))) ∷ []))
+    (invariant (equal (name 4 30 (param 2))
+    (minus 4 51 (plus 4 47 (at (place 4 34) (read (loop_entry 0) (param 2))) (name 4 49 (turn 0))) (num 4 53 1))) ∷ [])
+    (seq (set_to 5 7 (param 2) None (plus 5 14 (name 5 12 (param 2)) (name 5 16 (param 1))) ∷ []))) ∷ []))

@@ -3,12 +3,11 @@
 --    type Arr is array (Positive range <>) of Integer;
 --    type P is record A : Integer; B : Integer; end record;
 --    type Table is array (1 .. 2) of P;
-use Rattle.std.specs.Prelude.{ℕ, zero, suc, Bool, true, false, List, [], ◌∷◌, Option, Some, None, ℤ, pos, negsuc}
-use Rattle.ada_values.specs.Value.{Val, number, array, record_of, Vals, no_vals, val, vals_of}
-use Rattle.typed_units.specs.declared.operators.Bounds.{Bounds}
+use Rattle.std.specs.Prelude.{ℕ, zero, suc, true, false, List, [], ◌∷◌, Some, None, ℤ, pos, negsuc}
+use Rattle.ada_values.specs.Value.{Val, array, record_of, Vals, no_vals, val, vals_of}
 use Rattle.typed_units.specs.declared.operators.Composite.TheVariants as composite
 use Rattle.typed_units.specs.declared.operators.Quantifier.TheVariants as quantifier
-use Rattle.typed_units.specs.Syntax.{Var, param, local, index, Ex, at, op1, op2, first, last, length_at, item, component, aggregate, Assocs, no_assocs, assoc, quantified, Fit, Step, to_component, to_item, pass_in_out, Text}
+use Rattle.typed_units.specs.Syntax.{param, local, index, Ex, at, op1, op2, first, last, length_at, item, component, aggregate, Assocs, no_assocs, assoc, quantified, Fit, Step, to_component, to_item, pass_in_out, Text}
 use Rattle.ada_semantics.specs.Values.{place_of}
 use Rattle.ada_semantics.specs.Cases.{place, integer, short, to, num, name, plus, over, equal, greater, part_of, set_to, put_in, call_of, natural, by_in, by_out, by_in_out, procedure_of, one, program, int}
 
@@ -66,7 +65,7 @@ row_aggregate c as' = at (place 3 c) (aggregate composite.Array (to (pos 1) (pos
 --  5  end Store;
 abbrev pub store : Text
 store = one (procedure_of (by_in_out ∷ by_in ∷ by_in ∷ by_out ∷ [])
-    ( put_in 3 4 (param 0) (of_row (name 3 7 (param 1)) ∷ []) None (plus 3 15 (name 3 13 (param 2)) (num 3 17 1))
+    (put_in 3 4 (param 0) (of_row (name 3 7 (param 1)) ∷ []) None (plus 3 15 (name 3 13 (param 2)) (num 3 17 1))
     ∷ set_to 4 4 (param 3) None (item_of (name 4 9 (param 0)) (name 4 12 (param 2))) ∷ []))
 
 --  1  procedure Early (I : in Integer) is   -- refused, as A is read where it isn't set
@@ -85,7 +84,7 @@ early = one (procedure_of (by_in ∷ []) (put_in 4 4 (local 0) (of_row (name 4 7
 --  6  end Bounds;
 abbrev pub bounds : Text
 bounds = one (procedure_of (by_in ∷ by_out ∷ by_out ∷ by_out ∷ [])
-    ( set_to 3 4 (param 1) None (at (place 3 9) (op1 first (name 3 9 (param 0))))
+    (set_to 3 4 (param 1) None (at (place 3 9) (op1 first (name 3 9 (param 0))))
     ∷ set_to 4 4 (param 2) None (at (place 4 9) (op1 last (name 4 9 (param 0))))
     ∷ set_to 5 4 (param 3) None (at (place 5 9) (op1 (length_at (place 5 10) integer) (name 5 9 (param 0)))) ∷ []))
 
@@ -104,8 +103,8 @@ count = one (procedure_of (by_in ∷ by_out ∷ [])
 abbrev pub above : Text
 above = one (procedure_of (by_in ∷ by_out ∷ [])
     (set_to 3 4 (param 1) None (at (place 3 9) (quantified quantifier.All 0
-      (at (place 3 23) (op1 first (name 3 23 (param 0)))) (at (place 3 23) (op1 last (name 3 23 (param 0))))
-      (greater (item_of (name 3 34 (param 0)) (name 3 37 (index 0))) (num 3 42 0)))) ∷ []))
+    (at (place 3 23) (op1 first (name 3 23 (param 0)))) (at (place 3 23) (op1 last (name 3 23 (param 0))))
+    (greater (item_of (name 3 34 (param 0)) (name 3 37 (index 0))) (num 3 42 0)))) ∷ []))
 
 -- ---- aggregates of arrays
 
@@ -116,7 +115,7 @@ above = one (procedure_of (by_in ∷ by_out ∷ [])
 abbrev pub fill : Text
 fill = one (procedure_of (by_in ∷ by_out ∷ [])
     (set_to 3 4 (param 1) None (row_aggregate 9 (range_to 1 1 (name 3 15 (param 0))
-      (others_to None (plus 3 30 (name 3 28 (param 0)) (num 3 32 1))))) ∷ []))
+    (others_to None (plus 3 30 (name 3 28 (param 0)) (num 3 32 1))))) ∷ []))
 
 --  1  procedure Ends (X : in Integer; A : out Row) is
 --  2  begin
@@ -125,7 +124,7 @@ fill = one (procedure_of (by_in ∷ by_out ∷ [])
 abbrev pub both_ends : Text
 both_ends = one (procedure_of (by_in ∷ by_out ∷ [])
     (set_to 3 4 (param 1) None (row_aggregate 9 (assoc (to (pos 1) (pos 1) ∷ to (pos 3) (pos 3) ∷ []) false None (name 3 19 (param 0))
-      (range_to 2 2 (num 3 27 0) no_assocs))) ∷ []))
+    (range_to 2 2 (num 3 27 0) no_assocs))) ∷ []))
 
 --  1  procedure All_Given (X : in Integer; A : out Row) is
 --  2  begin
@@ -134,7 +133,7 @@ both_ends = one (procedure_of (by_in ∷ by_out ∷ [])
 abbrev pub all_given : Text
 all_given = one (procedure_of (by_in ∷ by_out ∷ [])
     (set_to 3 4 (param 1) None (row_aggregate 9 (range_to 1 3 (name 3 20 (param 0))
-      (others_to None (over 3 36 (num 3 33 10) (name 3 38 (param 0)))))) ∷ []))
+    (others_to None (over 3 36 (num 3 33 10) (name 3 38 (param 0)))))) ∷ []))
 
 --  1  procedure None_Given (X : in Integer; A : out Row) is
 --  2  begin
@@ -143,7 +142,7 @@ all_given = one (procedure_of (by_in ∷ by_out ∷ [])
 abbrev pub none_given : Text
 none_given = one (procedure_of (by_in ∷ by_out ∷ [])
     (set_to 3 4 (param 1) None (row_aggregate 9 (range_to 3 2 (over 3 23 (num 3 20 10) (name 3 25 (param 0)))
-      (others_to None (name 3 38 (param 0))))) ∷ []))
+    (others_to None (name 3 38 (param 0))))) ∷ []))
 
 --  1  procedure Written (X : in Integer; A : out Row) is
 --  2  begin
@@ -152,7 +151,7 @@ none_given = one (procedure_of (by_in ∷ by_out ∷ [])
 abbrev pub written : Text
 written = one (procedure_of (by_in ∷ by_out ∷ [])
     (set_to 3 4 (param 1) None (row_aggregate 9 (range_to 2 2 (over 3 18 (num 3 15 10) (name 3 20 (param 0)))
-      (others_to None (plus 3 35 (name 3 33 (param 0)) (num 3 37 1))))) ∷ []))
+    (others_to None (plus 3 35 (name 3 33 (param 0)) (num 3 37 1))))) ∷ []))
 
 --  1  procedure Same (X : in Integer; A : out Natural_Row) is   -- whose items are of Natural
 --  2  begin
@@ -172,7 +171,7 @@ same_all = one (procedure_of (by_in ∷ by_out ∷ [])
 --  6  end Parts;
 abbrev pub parts : Text
 parts = one (procedure_of (by_in ∷ by_out ∷ by_out ∷ [])
-    ( put_in 3 4 (param 1) (of_p 0 ∷ []) None (name 3 11 (param 0))
+    (put_in 3 4 (param 1) (of_p 0 ∷ []) None (name 3 11 (param 0))
     ∷ set_to 4 4 (param 2) None (component_of (name 4 9 (param 1)) 0)
     ∷ put_in 5 4 (param 1) (of_p 1 ∷ []) None (plus 5 13 (name 5 11 (param 2)) (num 5 15 1)) ∷ []))
 
@@ -185,7 +184,7 @@ parts = one (procedure_of (by_in ∷ by_out ∷ by_out ∷ [])
 --  7  end Copy;
 abbrev pub copy : Text
 copy = one (procedure_of (by_in ∷ by_out ∷ [])
-    ( put_in 4 4 (local 0) (of_p 0 ∷ []) None (name 4 11 (param 0))
+    (put_in 4 4 (local 0) (of_p 0 ∷ []) None (name 4 11 (param 0))
     ∷ put_in 5 4 (local 0) (of_p 1 ∷ []) None (num 5 11 2)
     ∷ set_to 6 4 (param 1) None (name 6 9 (local 0)) ∷ []))
 
@@ -197,7 +196,7 @@ copy = one (procedure_of (by_in ∷ by_out ∷ [])
 --  6  end Half;
 abbrev pub half : Text
 half = one (procedure_of (by_in ∷ by_out ∷ [])
-    ( put_in 4 4 (local 0) (of_p 0 ∷ []) None (name 4 11 (param 0))
+    (put_in 4 4 (local 0) (of_p 0 ∷ []) None (name 4 11 (param 0))
     ∷ set_to 5 4 (param 1) None (name 5 9 (local 0)) ∷ []))
 
 --  1  procedure Give (X : in Integer; R, S : out P; E : out Boolean) is
@@ -208,9 +207,9 @@ half = one (procedure_of (by_in ∷ by_out ∷ [])
 --  6  end Give;
 abbrev pub given_parts : Text
 given_parts = one (procedure_of (by_in ∷ by_out ∷ by_out ∷ by_out ∷ [])
-    ( set_to 3 4 (param 1) None (at (place 3 9) (aggregate composite.Record (to (pos 0) (pos 1)) (range_to 0 0 (name 3 15 (param 0)) (range_to 1 1 (num 3 23 2) no_assocs))))
+    (set_to 3 4 (param 1) None (at (place 3 9) (aggregate composite.Record (to (pos 0) (pos 1)) (range_to 0 0 (name 3 15 (param 0)) (range_to 1 1 (num 3 23 2) no_assocs))))
     ∷ set_to 4 4 (param 2) None (at (place 4 9) (aggregate composite.Record (to (pos 0) (pos 1))
-        (assoc (to (pos 0) (pos 0) ∷ to (pos 1) (pos 1) ∷ []) false None (name 4 19 (param 0)) no_assocs)))
+    (assoc (to (pos 0) (pos 0) ∷ to (pos 1) (pos 1) ∷ []) false None (name 4 19 (param 0)) no_assocs)))
     ∷ set_to 5 4 (param 3) None (equal (name 5 9 (param 1)) (name 5 13 (param 2))) ∷ []))
 
 --  1  procedure Deep (T : in out Table; I : in Integer; R : out Integer) is
@@ -220,8 +219,8 @@ given_parts = one (procedure_of (by_in ∷ by_out ∷ by_out ∷ by_out ∷ [])
 --  5  end Deep;
 abbrev pub deep : Text
 deep = one (procedure_of (by_in_out ∷ by_in ∷ by_out ∷ [])
-    ( put_in 3 4 (param 0) (to_item (Some (to (pos 1) (pos 2))) true (name 3 7 (param 1)) ∷ of_p 1 ∷ []) None
-        (component_of (at (place 3 15) (op2 (item false) (name 3 15 (param 0)) (num 3 18 1))) 0)
+    (put_in 3 4 (param 0) (to_item (Some (to (pos 1) (pos 2))) true (name 3 7 (param 1)) ∷ of_p 1 ∷ []) None
+    (component_of (at (place 3 15) (op2 (item false) (name 3 15 (param 0)) (num 3 18 1))) 0)
     ∷ set_to 4 4 (param 2) None (component_of (item_of (name 4 9 (param 0)) (name 4 12 (param 1))) 1) ∷ []))
 
 --  1  package body Lend is
@@ -239,8 +238,8 @@ deep = one (procedure_of (by_in_out ∷ by_in ∷ by_out ∷ [])
 -- 13  end Lend;
 abbrev pub lend : Text
 lend = program
-    ( procedure_of (by_in_out ∷ []) (set_to 4 7 (param 0) None (plus 4 14 (name 4 12 (param 0)) (num 4 16 1)) ∷ [])
+    (procedure_of (by_in_out ∷ []) (set_to 4 7 (param 0) None (plus 4 14 (name 4 12 (param 0)) (num 4 16 1)) ∷ [])
     ∷ procedure_of (by_in ∷ by_out ∷ [])
-      ( put_in 9 7 (local 0) (of_p 0 ∷ []) None (name 9 14 (param 0))
-      ∷ call_of 10 7 0 (pass_in_out 0 (part_of 10 12 (local 0) (of_p 0 ∷ [])) None None ∷ [])
-      ∷ set_to 11 7 (param 1) None (component_of (name 11 12 (local 0)) 0) ∷ []) ∷ [])
+    (put_in 9 7 (local 0) (of_p 0 ∷ []) None (name 9 14 (param 0))
+    ∷ call_of 10 7 0 (pass_in_out 0 (part_of 10 12 (local 0) (of_p 0 ∷ [])) None None ∷ [])
+    ∷ set_to 11 7 (param 1) None (component_of (name 11 12 (local 0)) 0) ∷ []) ∷ [])
