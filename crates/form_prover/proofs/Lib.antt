@@ -1,0 +1,8 @@
+pub mod Runs
+pub mod Valid
+pub mod Sound
+pub mod Numbering
+pub mod Exact
+pub mod Steps
+pub mod Equal
+pub mod Passing

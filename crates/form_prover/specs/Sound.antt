@@ -1,0 +1,16 @@
+-- What a row that is proved says of runs.
+use Rattle.std.specs.Prelude.{◌≡◌, ℕ, true, List, [], ◌∷◌, Contains}
+use Rattle.ada_values.specs.Value.{Val}
+use Rattle.ada_semantics.specs.Plain.{plain, fails, inputs_fit}
+use Rattle.first_form.specs.declared.form.FirstForm.{FirstForm}
+use Rattle.form_prover.specs.declared.rows.Row.{Row}
+use Rattle.form_prover.specs.Program.{procedure_of, program_of}
+use Rattle.form_prover.specs.Rows.{one_worker}
+
+-- No run of the procedure, from inputs in their shapes and with any budget, fails first at the site of a row that is
+-- reported proved.
+abbrev pub ProvedRowsHold : Type 0
+ProvedRowsHold =
+    (f : FirstForm) (row : Row) → Contains (one_worker (program_of f) (procedure_of f)) row → row.proved ≡ true
+    → (params globals : List Val) (n : ℕ) → inputs_fit (program_of f) (procedure_of f) params globals ≡ true
+    → plain (program_of f) 0 params globals n ≡ fails row.site → ⊥

@@ -1,0 +1,10 @@
+//! Which assertions of a file of the first form are proved.
+#![tactic(auto)]
+
+mod formulas;
+mod given;
+mod laws;
+mod rows;
+
+pub use laws::proved_rows_hold;
+pub use rows::{Row, RowList, rows_of};
