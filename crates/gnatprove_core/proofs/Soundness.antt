@@ -1,0 +1,273 @@
+-- A line that calls a check proved is the row of a site at which no run fails first.
+use Rattle.std.proofs.Common.{◌≡◌, ◌≢◌, ℕ, zero, suc, ◌<◌, ◌^◌, refl, ap, sym, subst, ◌∙◌, ◌⊎◌, inl, inr, Bool, true, false, Option, Some, None, List, [], ◌∷◌, ◌++◌, ◌+◌, map, take, length, arith, lit<, append_assoc}
+use Rattle.std.proofs.lemmas.List.{append_cancel_left}
+use Rattle.std.specs.Prelude.{not, ◌&&◌, ◌||◌, ◌==◌, nat_le, codes, slice_index_or, Contains, All, Any, if◌then◌else◌}
+use Rattle.std.specs.List.{list_all}
+use Rattle.std.specs.Char.{is_ascii_alphanumeric}
+use Rattle.std.specs.Str.{bytes_eq}
+use Rattle.std.specs.Io.KnownBytes.{append_known}
+use Rattle.ada_values.specs.Value.{Val}
+use Rattle.ada_values.specs.declared.place.Place.{Place}
+use Rattle.typed_units.specs.declared.checks.CheckKind.{CheckKind}
+use Rattle.typed_units.specs.declared.checks.SiteKey.{SiteKey}
+use Rattle.ada_semantics.specs.Plain.{plain, fails, inputs_fit}
+use Rattle.keeper_io.specs.Maps.{Map, entry_of, Holds}
+use Rattle.keeper_io.specs.Pieces.{AddsPart}
+use Rattle.first_form.specs.declared.form.FirstForm.{FirstForm}
+use Rattle.first_form.specs.Form.{IsForm, text_of}
+use Rattle.first_form.specs.declared.form.Assertion.{Assertion}
+use Rattle.first_form.specs.Places.{first_unknown}
+use Rattle.first_form.proofs.Whole.{same_form}
+use Rattle.form_prover.specs.declared.rows.Row as prover
+use Rattle.logic_terms.specs.Node.{Node}
+use Rattle.ada_semantics.specs.Outcome.{site}
+use Rattle.typed_units.specs.declared.checks.CheckKind.TheVariants as kind
+use Rattle.form_prover.specs.Program.{place_in, left_column, procedure_of, program_of}
+use Rattle.form_prover.specs.Formulas.{condition_node, input_nodes, rows_after}
+use Rattle.form_prover.proofs.Exact.{one_worker_is}
+use Rattle.form_prover.proofs.Sound.{rows_hold}
+use Rattle.gnat_report.specs.declared.rows.Row.{Row}
+use Rattle.gnat_report.specs.declared.rows.RowStatus.{RowStatus}
+use Rattle.gnat_report.specs.declared.rows.RowStatus.TheVariants as row
+use Rattle.gnat_report.specs.Text.{row_line, report_text_of}
+use Rattle.gnat_report.specs.Reading.{whole_lines, IsRowName, IsPlace, IsRow, SaysTheSame}
+use Rattle.gnat_report.proofs.Bytes.{Lacks, Lacks-from_test, Lacks-from_All, Lacks-append}
+use Rattle.gnat_report.proofs.Lines.{cut_in}
+use Rattle.gnat_report.proofs.Parts.{fault_lines_differ}
+use Rattle.gnat_report.proofs.Reports.{lines_read_back}
+use Rattle.gnatprove_core.specs.declared.status.Status.{Status}
+use Rattle.gnatprove_core.specs.declared.status.Status.TheVariants as status
+use Rattle.gnatprove_core.specs.Words.{is_file_byte, is_file_name, file_of}
+use Rattle.gnatprove_core.specs.Texts.{read_fault_text}
+use Rattle.gnatprove_core.specs.Answers.{row_status, row_in, rows_of, Reports, HasForm, AnswersForm, AnswersBytes, AnswersFile, AnswersRead, AnswersNamed, Answers, Ends}
+use Rattle.gnatprove_core.specs.Sound.{Accepted, CallsProved, NeverFailsAt, IsSound}
+
+-- ---- the name of a file
+
+file_byte_is_no : (c d : ℕ) → is_file_byte d ≡ false → is_file_byte c ≡ true → c ≢ d
+file_byte_is_no c d f t e = let g : is_file_byte c ≡ false = ap is_file_byte e ∙ f in cc
+
+both : (a b : Bool) → (a && b) ≡ true → (a ≡ true) × (b ≡ true)
+both true b h = (refl, h)
+both false b h = cc
+
+all_file_bytes : (cs : List ℕ) → list_all is_file_byte cs ≡ true → IsRowName cs
+all_file_bytes [] h k d lt = absurd (omega arith)
+all_file_bytes (c ∷ cs) h zero d lt =
+    let e = both (is_file_byte c) (list_all is_file_byte cs) h in (file_byte_is_no c 58 refl e.0, file_byte_is_no c 10 refl e.0)
+all_file_bytes (c ∷ cs) h (suc k) d lt =
+    let e = both (is_file_byte c) (list_all is_file_byte cs) h in all_file_bytes cs e.1 k d (omega arith)
+
+file_name_is_row_name : (name : List ℕ) → is_file_name name ≡ true → IsRowName name
+file_name_is_row_name [] h = cc
+file_name_is_row_name (c ∷ cs) h =
+    let e = both (not (c == 45) && list_all is_file_byte (c ∷ cs)) (nat_le (length (c ∷ cs)) 255) h in
+    let d = both (not (c == 45)) (list_all is_file_byte (c ∷ cs)) e.0 in
+    all_file_bytes (c ∷ cs) d.1
+
+named : (word name : List ℕ) (b : Bool) (x : List ℕ) → (if b && is_file_name name then Some name else None) ≡ Some x → is_file_name x ≡ true
+named word name true x h = given (is_file_name name) refl h
+  where
+    given : (t : Bool) → is_file_name name ≡ t → (if t then Some name else None) ≡ Some x → is_file_name x ≡ true
+    given true e g = let d : name ≡ x = cc in ap is_file_name (sym d) ∙ e
+    given false e g = cc
+named word name false x h = cc
+
+file_is_named : (words : List (List ℕ)) (name : List ℕ) → file_of words ≡ Some name → is_file_name name ≡ true
+file_is_named [] name h = cc
+file_is_named (w ∷ []) name h = cc
+file_is_named (w ∷ n ∷ []) name h = named w n (bytes_eq w (codes "prove")) name h
+file_is_named (w ∷ n ∷ m ∷ ws) name h = cc
+
+-- ---- the rows of the report
+
+-- an element of a list is one of the list that it was made from
+pub record Made {A B : Type 0} (g : A → B) (xs : List A) (k : ℕ) (y : B) : Type 0 where
+  pub from : A
+  pub within : k < length xs
+  pub there : slice_index_or xs k from ≡ from
+  pub gives : g from ≡ y
+
+made : {A B : Type 0} (g : A → B) (xs : List A) (k : ℕ) (y : B) → k < length (map g xs) → slice_index_or (map g xs) k y ≡ y → Made g xs k y
+made g [] k y h e = absurd (omega arith)
+made g (x ∷ xs) zero y h e = record { from = x; within = omega arith; there = refl; gives = e }
+made g (x ∷ xs) (suc k) y h e =
+    let m = made g xs k y (omega arith) e in
+    record { from = m.from; within = (let w = m.within in omega arith); there = m.there; gives = m.gives }
+
+same_site_key : (c d : SiteKey) → c.place.file ≡ d.place.file → c.place.line ≡ d.place.line → c.place.column ≡ d.place.column → c.kind ≡ d.kind → c ≡ d
+same_site_key c d f l m k =
+    ap (λ (x : ℕ). record { place = record { file = x; line = c.place.line; column = c.place.column }; kind = c.kind }) f
+    ∙ ap (λ (x : ℕ). record { place = record { file = d.place.file; line = x; column = c.place.column }; kind = c.kind }) l
+    ∙ ap (λ (x : ℕ). record { place = record { file = d.place.file; line = d.place.line; column = x }; kind = c.kind }) m
+    ∙ ap (λ (x : CheckKind). record { place = d.place; kind = x }) k
+
+status_proved : (b : Bool) → row_status b ≡ row.Proved → b ≡ true
+status_proved true h = refl
+status_proved false h = cc
+
+same_default : {A : Type 0} (xs : List A) (k : ℕ) (d : A) → k < length xs → slice_index_or xs k (slice_index_or xs k d) ≡ slice_index_or xs k d
+same_default [] k d h = absurd (omega arith)
+same_default (x ∷ xs) zero d h = refl
+same_default (x ∷ xs) (suc k) d h = same_default xs k d (omega arith)
+
+take-all : (xs : List ℕ) → take (length xs) xs ≡ xs
+take-all [] = refl
+take-all (x ∷ xs) = ap (λ (ys : List ℕ). x ∷ ys) (take-all xs)
+
+append-nil : (xs : List ℕ) → xs ++ [] ≡ xs
+append-nil [] = refl
+append-nil (x ∷ xs) = ap (λ (ys : List ℕ). x ∷ ys) (append-nil xs)
+
+-- the sites of the rows stand in the one file, on lines from the third on
+pub record Placed (r : prover.Row) : Type 0 where
+  pub line : ℕ
+  pub low : line < 1000
+  pub site_is : r.site ≡ site (place_in line left_column) kind.Assert
+
+placed_after : (ps : List (List ℕ)) (hs : List Node) (l : ℕ) (as' : List Assertion) → l + length as' < 1000 → (k : ℕ) (r : prover.Row)
+    → k < length (rows_after ps hs l as') → slice_index_or (rows_after ps hs l as') k r ≡ r → Placed r
+placed_after ps hs l [] h k r i e = absurd (omega arith)
+placed_after ps hs l (a ∷ as') h zero r i e =
+    record { line = l; low = omega arith; site_is = ap (λ (x : prover.Row). x.site) (sym e) }
+placed_after ps hs l (a ∷ as') h (suc k) r i e =
+    placed_after ps (hs ++ condition_node ps a ∷ []) (suc l) as' (omega arith) k r (omega arith) e
+
+row_placed : (f : FirstForm) → IsForm f → (k : ℕ) (r : prover.Row) → k < length (rows_of f) → slice_index_or (rows_of f) k r ≡ r → Placed r
+row_placed f form k r h e =
+    let few = form.limits.few_assertions in
+    placed_after f.params (input_nodes (length f.params) 0) 3 f.assertions (omega (arith, few)) k r
+    (subst (λ (rs : List prover.Row). k < length rs) (one_worker_is f) h) (subst (λ (rs : List prover.Row). slice_index_or rs k r ≡ r) (one_worker_is f) e)
+
+is_place : (r : prover.Row) → Placed r → IsPlace r.site.place
+is_place r p = record {
+  line = let e = ap (λ (c : SiteKey). c.place.line) p.site_is in let l = p.low in rw e (lower l);
+  column = let e = ap (λ (c : SiteKey). c.place.column) p.site_is in rw e (lit< tt);
+}
+  where
+    lower : {n : ℕ} → n < 1000 → n < 2 ^ 32
+    lower h = omega arith
+
+all_rows : (name : List ℕ) → IsRowName name → (f : FirstForm) → IsForm f → All IsRow (map (row_in name) (rows_of f))
+all_rows name n f form k d h =
+    let m = made (row_in name) (rows_of f) k (slice_index_or (map (row_in name) (rows_of f)) k d) h (same_default (map (row_in name) (rows_of f)) k d h) in
+    subst (λ (x : Row). IsRow x) m.gives (record { name = n; place = is_place m.from (row_placed f form k m.from m.within m.there) })
+
+-- ---- a report
+
+report_sound : (name : List ℕ) → IsRowName name → (f : FirstForm) → IsForm f → (full : List ℕ) → full ≡ report_text_of (map (row_in name) (rows_of f))
+    → (k : ℕ) (c : SiteKey) → c.place.file ≡ 0 → IsPlace c.place → CallsProved (take k full) name c → NeverFailsAt f c
+report_sound name n f form full e k c z place h params globals budget fit run =
+    let rows = map (row_in name) (rows_of f) in
+    let line : Row = record { name = name; key = c; status = row.Proved } in
+    let a = lines_read_back rows line k (all_rows name n f form) (record { name = n; place = place })
+    (subst (λ (t : List ℕ). Contains (whole_lines (take k t)) (row_line line)) e h) in
+    let m = made (row_in name) (rows_of f) a.0 a.1 a.2 a.3 in
+    let said = a.4 in
+    let there = row_placed f form a.0 m.from m.within m.there in
+    let key : m.from.site ≡ a.1.key = ap (λ (x : Row). x.key) m.gives in
+    let file : m.from.site.place.file ≡ 0 = ap (λ (s : SiteKey). s.place.file) there.site_is in
+    let same : m.from.site ≡ c = same_site_key m.from.site c (file ∙ sym z)
+    (ap (λ (s : SiteKey). s.place.line) key ∙ said.line) (ap (λ (s : SiteKey). s.place.column) key ∙ said.column) (ap (λ (s : SiteKey). s.kind) key ∙ said.kind) in
+    let proved : m.from.proved ≡ true = status_proved m.from.proved (ap (λ (x : Row). x.status) m.gives ∙ said.status) in
+    rows_hold f m.from (a.0, m.within, m.there) proved params globals budget fit (run ∙ ap fails (sym same))
+
+-- ---- the line of a read fault
+
+sole : (line other : List ℕ) (k : ℕ) → k < length (line ∷ []) → slice_index_or (line ∷ []) k other ≡ other → other ≡ line
+sole line other zero h e = sym e
+sole line other (suc k) h e = absurd (omega arith)
+
+one_line : (line other : List ℕ) → Contains (line ∷ []) other → other ≡ line
+one_line line other h = sole line other h.0 h.1 h.2
+
+no_lines : (j : ℕ) → whole_lines (take j []) ≡ []
+no_lines zero = refl
+no_lines (suc j) = refl
+
+no_row_in_fault : (name : List ℕ) → IsRowName name → (k : ℕ) (r : Row) → IsRowName r.name → Contains (whole_lines (take k (read_fault_text name))) (row_line r) → ⊥
+no_row_in_fault name n k r i h =
+    let line = codes "gnatprove: read fault: " ++ name in
+    let lacks : Lacks 10 line = Lacks-append 10 (codes "gnatprove: read fault: ") name (Lacks-from_test 10 (codes "gnatprove: read fault: ") refl)
+          (Lacks-from_All (λ c. (c ≢ 58) × (c ≢ 10)) 10 (λ c p. p.1) name n) in
+    let text : read_fault_text name ≡ line ++ 10 ∷ [] = sym (append_assoc (codes "gnatprove: read fault: ") name (10 ∷ [])) in
+    let there = subst (λ (t : List ℕ). Contains (whole_lines (take k t)) (row_line r)) text h in
+    elim (cut_in line [] k lacks) [
+      inl e ↦ let g = subst (λ (ls : List (List ℕ)). Contains ls (row_line r)) e there in absurd (omega (arith, g.1))
+    | inr e ↦ fault_lines_differ r (codes "read fault: " ++ name) i
+        (one_line line (row_line r) (subst (λ (ls : List (List ℕ)). Contains ls (row_line r)) (e.1 ∙ ap (λ (ls : List (List ℕ)). line ∷ ls) (no_lines e.0)) there)) ]
+
+-- ---- the answer
+
+form_sound : (name bytes : List ℕ) → IsRowName name → (f : FirstForm) → Accepted bytes f → (s : Status) (full : List ℕ) → AnswersBytes name bytes s full
+    → (k : ℕ) (c : SiteKey) → c.place.file ≡ 0 → IsPlace c.place → CallsProved (take k full) name c → NeverFailsAt f c
+form_sound name bytes n f a s full (inl w) k c z place h = absurd (w.0 f a.0.0 a.0.1)
+form_sound name bytes n f a s full (inr w) k c z place h =
+    let same : w.0 ≡ f = same_form w.0 f w.1.0 a.0.0 (sym w.1.1 ∙ a.0.1) in
+    let known : first_unknown w.0 ≡ None = ap first_unknown same ∙ a.1 in
+    let reports = subst (λ (o : Option (ℕ × ℕ)). AnswersForm name w.0 o s full) known w.2 in
+    report_sound name n f a.0.0 full (reports.1 ∙ ap (λ (g : FirstForm). report_text_of (map (row_in name) (rows_of g))) same) k c z place h
+
+found_sound : (name bytes : List ℕ) → IsRowName name → (f : FirstForm) → Accepted bytes f → (o : Option (List ℕ)) → o ≡ Some bytes → (s : Status) (full : List ℕ)
+    → AnswersFile name o s full → (k : ℕ) (c : SiteKey) → c.place.file ≡ 0 → IsPlace c.place → CallsProved (take k full) name c → NeverFailsAt f c
+found_sound name bytes n f a None e s full w k c z place h = cc
+found_sound name bytes n f a (Some b) e s full w k c z place h =
+    let d : b ≡ bytes = cc in
+    form_sound name bytes n f a s full (subst (λ (x : List ℕ). AnswersBytes name x s full) d w) k c z place h
+
+read_sound : (m : Map) (name bytes : List ℕ) → IsRowName name → entry_of m name ≡ Some bytes → (f : FirstForm) → Accepted bytes f → (s : Status) (full : List ℕ)
+    → AnswersRead (Some m) name s full → (k : ℕ) (c : SiteKey) → c.place.file ≡ 0 → IsPlace c.place → CallsProved (take k full) name c → NeverFailsAt f c
+read_sound m name bytes n e f a status.ReadFault full w k c z place h =
+    absurd (no_row_in_fault name n k (record { name = name; key = c; status = row.Proved }) n
+    (subst (λ (t : List ℕ). Contains (whole_lines (take k t)) (row_line (record { name = name; key = c; status = row.Proved }))) w h))
+read_sound m name bytes n e f a s full w k c z place h = found_sound name bytes n f a w.0 (sym w.1 ∙ e) s full w.2 k c z place h
+
+answer_sound : (m : Map) (words : List (List ℕ)) (name bytes : List ℕ) → file_of words ≡ Some name → entry_of m name ≡ Some bytes → (f : FirstForm) → Accepted bytes f
+    → (s : Status) (full : List ℕ) → Answers (Some m) words s full → (k : ℕ) (c : SiteKey) → c.place.file ≡ 0 → IsPlace c.place → CallsProved (take k full) name c → NeverFailsAt f c
+answer_sound m words name bytes w e f a s full h k c z place p =
+    read_sound m name bytes (file_name_is_row_name name (file_is_named words name w)) e f a s full
+    (subst (λ (o : Option (List ℕ)). AnswersNamed (Some m) o s full) w h) k c z place p
+
+-- ---- what a run wrote
+
+-- a first part of an answer, or nothing
+pub record Wrote (told : Option Map) (words : List (List ℕ)) (text : List ℕ) : Type 0 where
+  pub status : Status
+  pub full : List ℕ
+  pub answers : Answers told words status full
+  pub part : ℕ
+  pub text_is : text ≡ take part full
+
+added : (old text more : List ℕ) → Some (old ++ text) ≡ append_known (Some old) more → text ≡ more
+added old text more e = let d : old ++ text ≡ old ++ more = cc in append_cancel_left old text more d
+
+whole : (told : Option Map) (words : List (List ℕ)) (s : Status) (old text : List ℕ)
+    → (t : List ℕ) × Answers told words s t × (Some (old ++ text) ≡ append_known (Some old) t) → Wrote told words text
+whole told words s old text w = record {
+  status = s;
+  full = w.0;
+  answers = w.1;
+  part = length w.0;
+  text_is = added old text w.0 w.2 ∙ sym (take-all w.0);
+}
+
+wrote : (told : Option Map) (words : List (List ℕ)) (s : Status) (old text : List ℕ) → Ends told words s (Some old) (Some (old ++ text))
+    → (text ≡ []) ⊎ Wrote told words text
+wrote told words status.Starved old text e =
+    let d : Some (old ++ text) ≡ append_known (Some old) [] = e ∙ ap Some (sym (append-nil old)) in inl (added old text [] d)
+wrote told words status.WriteFault old text e =
+    inr (record { status = e.0; full = e.1; answers = e.2; part = e.3.0; text_is = added old text (take e.3.0 e.1) e.3.2 })
+wrote told words s old text e = inr (whole told words s old text e)
+
+pub sound : (told : Option Map) (words : List (List ℕ)) (s : Status) (before after : Option (List ℕ)) → Ends told words s before after → IsSound told words before after
+sound told words s before after e m name bytes old text f c t b a w entry accepted z place p params globals n fit run =
+    let d = subst (λ (x : Option (List ℕ)). Ends told words s x (Some (old ++ text))) b (subst (λ (x : Option (List ℕ)). Ends told words s before x) a e) in
+    elim (wrote told words s old text d) [
+      | inl none ↦ nothing (subst (λ (x : List ℕ). CallsProved x name c) none p)
+      | inr part ↦ answer_sound m words name bytes w entry f accepted part.status part.full
+          (subst (λ (x : Option Map). Answers x words part.status part.full) t part.answers) part.part c z place
+          (subst (λ (x : List ℕ). CallsProved x name c) part.text_is p) params globals n fit run
+    ]
+  where
+    nothing : CallsProved [] name c → ⊥
+    nothing h = absurd (omega (arith, h.1))

@@ -1,0 +1,92 @@
+-- What the program answers: a status, and the text that it writes.
+use Rattle.std.specs.Prelude.{◌≡◌, ℕ, Bool, true, false, ◌⊎◌, Option, Some, None, List, map, length, codes, if◌then◌else◌, ◌<◌}
+use Rattle.std.specs.List.{list_all}
+use Rattle.std.specs.Io.KnownBytes.{append_known}
+use Rattle.keeper_io.specs.Maps.{Map, Holds}
+use Rattle.keeper_io.specs.Pieces.{AddsPart}
+use Rattle.first_form.specs.declared.form.FirstForm.{FirstForm}
+use Rattle.first_form.specs.Form.{IsForm, text_of}
+use Rattle.first_form.specs.Places.{first_unknown}
+use Rattle.form_prover.specs.declared.rows.Row as prover
+use Rattle.form_prover.specs.Program.{procedure_of, program_of}
+use Rattle.form_prover.specs.Rows.{one_worker}
+use Rattle.gnat_report.specs.declared.rows.Row.{Row}
+use Rattle.gnat_report.specs.declared.rows.RowStatus.{RowStatus}
+use Rattle.gnat_report.specs.declared.rows.RowStatus.TheVariants as row
+use Rattle.gnat_report.specs.Text.{report_text_of}
+use Rattle.gnatprove_core.specs.declared.status.Status.{Status}
+use Rattle.gnatprove_core.specs.declared.status.Status.TheVariants.{Proved, Unproved, Refused, Usage, ReadFault, WriteFault, Starved}
+use Rattle.gnatprove_core.specs.Words.{file_of}
+use Rattle.gnatprove_core.specs.Texts.{usage_text, no_file_text, read_fault_text, error_text}
+
+-- ---- the report
+
+abbrev pub row_status : Bool → RowStatus
+row_status true = row.Proved
+row_status false = row.Unproved
+
+abbrev pub row_in : List ℕ → prover.Row → Row
+row_in name r = record { name = name; key = r.site; status = row_status r.proved }
+
+-- one worker's rows of the file's program
+abbrev pub rows_of : FirstForm → List prover.Row
+rows_of f = one_worker (program_of f) (procedure_of f)
+
+-- Proved where every row is, else Unproved
+abbrev pub status_of : List prover.Row → Status
+status_of rows = if list_all (λ r. r.proved) rows then Proved else Unproved
+
+abbrev pub Reports : List ℕ → FirstForm → Status → List ℕ → Type 0
+Reports name f status text = (status ≡ status_of (rows_of f)) × (text ≡ report_text_of (map (row_in name) (rows_of f)))
+
+-- ---- the file
+
+-- a refusal of the file, at a place and with a code
+abbrev pub Refuses : List ℕ → ℕ → ℕ → List ℕ → Status → List ℕ → Type 0
+Refuses name line column code status text = (status ≡ Refused) × (text ≡ error_text name line column code)
+
+-- a name that is no parameter is refused, and else the report is written
+abbrev pub AnswersForm : List ℕ → FirstForm → Option (ℕ × ℕ) → Status → List ℕ → Type 0
+AnswersForm name f (Some place) status text = Refuses name place.0 place.1 (codes "UnknownName") status text
+AnswersForm name f None status text = Reports name f status text
+
+-- the bytes are the text of no form
+abbrev pub HasNoForm : List ℕ → Type 0
+HasNoForm bytes = (f : FirstForm) → IsForm f → bytes ≡ text_of f → ⊥
+
+-- the bytes are the text of this form
+abbrev pub HasForm : List ℕ → FirstForm → Type 0
+HasForm bytes f = IsForm f × (bytes ≡ text_of f)
+
+abbrev pub AnswersBytes : List ℕ → List ℕ → Status → List ℕ → Type 0
+AnswersBytes name bytes status text =
+    (HasNoForm bytes × Refuses name 1 1 (codes "NotBuilt") status text)
+    ⊎ ((f : FirstForm) × HasForm bytes f × AnswersForm name f (first_unknown f) status text)
+
+abbrev pub AnswersFile : List ℕ → Option (List ℕ) → Status → List ℕ → Type 0
+AnswersFile name None status text = (status ≡ Refused) × (text ≡ no_file_text name)
+AnswersFile name (Some bytes) status text = AnswersBytes name bytes status text
+
+-- ---- the words
+
+-- the file could not be read, or it is what the keeper holds under its name
+abbrev pub AnswersRead : Option Map → List ℕ → Status → List ℕ → Type 0
+AnswersRead told name ReadFault text = text ≡ read_fault_text name
+AnswersRead told name status text = (bytes : Option (List ℕ)) × Holds told name bytes × AnswersFile name bytes status text
+
+abbrev pub AnswersNamed : Option Map → Option (List ℕ) → Status → List ℕ → Type 0
+AnswersNamed told None status text = (status ≡ Usage) × (text ≡ usage_text)
+AnswersNamed told (Some name) status text = AnswersRead told name status text
+
+-- the answer to the words, where the keeper holds what is told
+abbrev pub Answers : Option Map → List (List ℕ) → Status → List ℕ → Type 0
+Answers told words status text = AnswersNamed told (file_of words) status text
+
+-- ---- the run
+
+-- What a run wrote: nothing where there was no memory, a first part of its answer where a write failed, and else the
+-- whole of the answer that has its status.
+abbrev pub Ends : Option Map → List (List ℕ) → Status → Option (List ℕ) → Option (List ℕ) → Type 0
+Ends told words Starved before after = after ≡ before
+Ends told words WriteFault before after = (status : Status) × (text : List ℕ) × Answers told words status text × AddsPart before after text
+Ends told words status before after = (text : List ℕ) × Answers told words status text × (after ≡ append_known before text)

@@ -1,0 +1,123 @@
+//! The answer to the words.
+
+ghost use Rattle.std.specs.Prelude.{◌≡◌, IfOk, OnOk, IsErrOf, None};
+ghost use Rattle.keeper_io.specs.Causes.{Rose};
+ghost use Rattle.first_form.specs.Form.{IsForm};
+ghost use Rattle.first_form.specs.Places.{first_unknown};
+ghost use Rattle.gnatprove_core.specs.Texts.{read_fault_text};
+ghost use Rattle.gnatprove_core.specs.Answers.{AnswersForm, AnswersBytes, AnswersFile, AnswersRead, Answers, Refuses};
+
+use crate::report::report;
+use crate::status::Status;
+use crate::texts::{error_text, no_file_text, read_fault_text, usage_text};
+use crate::words::file_of;
+use ada_values::{ByteList, NameText, WordList};
+use first_form::{FirstForm, FormFault, first_unknown, read_form};
+use keeper_io::{KeepFault, Keeper};
+use logic_terms::Starved;
+use std::alloc::Global;
+
+/// A status, and the text that is to be written.
+#[derive(Drop)]
+pub struct Answer {
+    pub status: Status,
+    pub text: ByteList,
+}
+
+/// The refusal of a file at a place.
+fn refusal(
+    alloc: Global,
+    name: &NameText,
+    line: u32,
+    column: u32,
+    code: &str,
+) -> Result<Answer, Starved>
+    ensures { IfOk result (λ answer. Refuses name.now line column code.now answer.status answer.text) }
+{
+    let text = error_text(alloc, name, line, column, code)?;
+    Ok(Answer {
+        status: Status::Refused,
+        text,
+    })
+}
+
+/// The answer to a form.
+fn answer_form(alloc: Global, name: &NameText, form: &FirstForm) -> Result<Answer, Starved>
+    requires { IsForm form.now }
+    ensures { IfOk result (λ answer. AnswersForm name.now form.now (first_unknown form.now) answer.status answer.text) }
+{
+    match first_unknown(form) {
+        Some((line, column)) => refusal(alloc, name, line, column, "UnknownName"),
+        None => report(alloc, name, form),
+    }
+}
+
+/// The answer to a file's bytes.
+fn answer_bytes(alloc: Global, name: &NameText, bytes: &[u8]) -> Result<Answer, Starved>
+    ensures { IfOk result (λ answer. AnswersBytes name.now bytes.now answer.status answer.text) }
+{
+    match read_form(alloc, bytes) {
+        Ok(form) => answer_form(alloc, name, &form),
+        Err(FormFault::NotBuilt) => refusal(alloc, name, 1, 1, "NotBuilt"),
+        Err(FormFault::Starved) => Err(Starved),
+    }
+}
+
+/// The answer for a file that is missing.
+fn answer_missing(alloc: Global, name: &NameText) -> Result<Answer, Starved>
+    ensures { IfOk result (λ answer. AnswersFile name.now None answer.status answer.text) }
+{
+    let text = no_file_text(alloc, name)?;
+    Ok(Answer {
+        status: Status::Refused,
+        text,
+    })
+}
+
+/// The answer to a file, by what the keeper gave for its name.
+fn answer_file(alloc: Global, name: &NameText, found: Option<ByteList>) -> Result<Answer, Starved>
+    ensures { IfOk result (λ answer. AnswersFile name.now found answer.status answer.text) }
+{
+    match found {
+        None => answer_missing(alloc, name),
+        Some(bytes) => answer_bytes(alloc, name, bytes.as_slice()),
+    }
+}
+
+/// The answer for a file that could not be read.
+fn answer_fault(alloc: Global, name: &NameText) -> Result<Answer, Starved>
+    ensures status { IfOk result (λ answer. answer.status ≡ Status.ReadFault) }
+    ensures text { IfOk result (λ answer. answer.text ≡ read_fault_text name.now) }
+{
+    let text = read_fault_text(alloc, name)?;
+    Ok(Answer {
+        status: Status::ReadFault,
+        text,
+    })
+}
+
+/// The answer to the words.
+pub fn answer_to<K: Keeper>(
+    alloc: Global,
+    words: &WordList,
+    files: &mut K,
+) -> Result<Answer, Starved>
+    ensures answer { IfOk result (λ answer. Answers (K.told files.old) words.now answer.status answer.text) }
+    ensures fault { IfOk result (λ answer. answer.status ≡ Status.ReadFault → Rose (K.get_faults files.old) (K.get_faults files.new)) }
+    ensures kept { IfOk result (λ answer. (answer.status ≡ Status.ReadFault → ⊥) → K.get_faults files.new ≡ K.get_faults files.old) }
+    ensures map { K.told files.new ≡ K.told files.old }
+    ensures puts { K.put_faults files.new ≡ K.put_faults files.old }
+{
+    let Some(name) = file_of(words) else {
+        let text = usage_text(alloc)?;
+        return Ok(Answer {
+            status: Status::Usage,
+            text,
+        });
+    };
+    match files.get(alloc, name) {
+        Ok(found) => answer_file(alloc, name, found),
+        Err(KeepFault::Failed) => answer_fault(alloc, name),
+        Err(KeepFault::Starved) => Err(Starved),
+    }
+}
