@@ -80,7 +80,6 @@ outcome_lacks Unproved = refl
 
 pub outcome_text_lacks : (kind : CheckKind) (status : RowStatus) → Lacks 10 (outcome_text kind status)
 outcome_text_lacks kind status =
-    let between : List ℕ → List ℕ = λ t. 58 ∷ 32 ∷ t in
     let end = Lacks-from_test 10 (32 ∷ outcome_of status) (outcome_lacks status) in
     let kind_on = Lacks-append 10 (words_of kind) (32 ∷ outcome_of status) (Lacks-from_test 10 (words_of kind) (words_lack kind)) end in
     let colon_on = Lacks-append 10 (58 ∷ 32 ∷ []) (words_of kind ++ (32 ∷ outcome_of status)) (Lacks-from_test 10 (58 ∷ 32 ∷ []) refl) kind_on in

@@ -4,6 +4,7 @@ use Rattle.ada_values.specs.declared.place.Place.{Place}
 use Rattle.gnat_report.specs.declared.rows.Row.{Row}
 use Rattle.gnat_report.specs.Text.{place_text, row_line, report_text_of}
 
+-- the byte put before the first line
 abbrev pub with_first : ℕ → List (List ℕ) → List (List ℕ)
 with_first c [] = []
 with_first c (line ∷ lines) = (c ∷ line) ∷ lines

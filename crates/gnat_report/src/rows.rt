@@ -9,7 +9,7 @@ use typed_units::SiteKey;
 pub enum RowStatus {
     /// All goals of the site are proved.
     Proved,
-    /// The site isn't proved but assumed, as that of a `pragma Assume` is.
+    /// The site is that of a `pragma Assume`, which is assumed and not proved.
     Assumed,
     /// Some goal of the site isn't proved.
     Unproved,

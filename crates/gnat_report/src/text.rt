@@ -93,7 +93,8 @@ fn push_row(alloc: Global, text: &mut Vec<u8>, row: &Row) -> Result<(), AllocErr
     text.extend_from_slice(b"\n")
 }
 
-/// The text of a report: a line for each row, in their order. An error comes where memory is refused.
+/// The text of a report: a line for each row, in their order. Where it is answered, the places of the rows are known to
+/// lie in the range of their type, as `lines_read_back` wants them. An error comes where memory is refused.
 pub fn report_text(alloc: Global, rows: &RowList) -> Result<ByteList, AllocError>
     ensures text { IfOk result (λ text. text ≡ report_text_of rows.now) }
     ensures places { OnOk result (HavePlaces rows.now) }
