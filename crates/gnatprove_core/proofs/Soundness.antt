@@ -189,13 +189,14 @@ no_row_in_fault : (name : List ℕ) → IsRowName name → (k : ℕ) (r : Row) �
 no_row_in_fault name n k r i h =
     let line = codes "gnatprove: read fault: " ++ name in
     let lacks : Lacks 10 line = Lacks-append 10 (codes "gnatprove: read fault: ") name (Lacks-from_test 10 (codes "gnatprove: read fault: ") refl)
-          (Lacks-from_All (λ c. (c ≢ 58) × (c ≢ 10)) 10 (λ c p. p.1) name n) in
+    (Lacks-from_All (λ c. (c ≢ 58) × (c ≢ 10)) 10 (λ c p. p.1) name n) in
     let text : read_fault_text name ≡ line ++ 10 ∷ [] = sym (append_assoc (codes "gnatprove: read fault: ") name (10 ∷ [])) in
     let there = subst (λ (t : List ℕ). Contains (whole_lines (take k t)) (row_line r)) text h in
     elim (cut_in line [] k lacks) [
-      inl e ↦ let g = subst (λ (ls : List (List ℕ)). Contains ls (row_line r)) e there in absurd (omega (arith, g.1))
-    | inr e ↦ fault_lines_differ r (codes "read fault: " ++ name) i
-        (one_line line (row_line r) (subst (λ (ls : List (List ℕ)). Contains ls (row_line r)) (e.1 ∙ ap (λ (ls : List (List ℕ)). line ∷ ls) (no_lines e.0)) there)) ]
+      | inl e ↦ let g = subst (λ (ls : List (List ℕ)). Contains ls (row_line r)) e there in absurd (omega (arith, g.1))
+      | inr e ↦ fault_lines_differ r (codes "read fault: " ++ name) i
+          (one_line line (row_line r) (subst (λ (ls : List (List ℕ)). Contains ls (row_line r)) (e.1 ∙ ap (λ (ls : List (List ℕ)). line ∷ ls) (no_lines e.0)) there))
+    ]
 
 -- ---- the answer
 

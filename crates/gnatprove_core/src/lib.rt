@@ -8,6 +8,12 @@ mod status;
 mod texts;
 mod words;
 
-pub use keeper_io::{FileKeeper, KeepFault, Keeper, ListSink, MapKeeper, OutSink, Sink};
+pub use keeper_io::{
+    CallList, Entry, EntryList, Failed, FileKeeper, KeepFault, Keeper, ListSink, MapKeeper,
+    OutSink, Sink,
+};
 pub use run::run_alone;
 pub use status::Status;
+
+#[cfg(test)]
+mod tests;

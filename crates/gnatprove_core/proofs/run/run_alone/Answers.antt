@@ -9,16 +9,16 @@ use Rattle.gnatprove_core.proofs.run.run_alone.Goals as goal
 pub returns-in-Ok-write_all-clause-ends : goal.returns-in-Ok-write_all-clause-ends
 returns-in-Ok-write_all-clause-ends g c =
     ends_whole (g.K.Keeper.told c.args.files.now) c.args.words.now c.in-Ok.answer.status c.in-Ok.answer.text
-      (g.S.Sink.written c.args.out.now) (g.S.Sink.written c.write_all.new.out) c.in-Ok.ensures.answer
-      (c.in-Ok-write_all.ensures.whole ∙ ap (append_known (g.S.Sink.written c.args.out.now)) c.as_slice.ensures)
+    (g.S.Sink.written c.args.out.now) (g.S.Sink.written c.write_all.new.out) c.in-Ok.ensures.answer
+    (c.in-Ok-write_all.ensures.whole ∙ ap (append_known (g.S.Sink.written c.args.out.now)) c.as_slice.ensures)
 
 pub returns-in-Ok-write_all-clause-sound : goal.returns-in-Ok-write_all-clause-sound
 returns-in-Ok-write_all-clause-sound g c =
     sound (g.K.Keeper.told c.args.files.now) c.args.words.now c.in-Ok.answer.status
-      (g.S.Sink.written c.args.out.now) (g.S.Sink.written c.write_all.new.out)
-      (ends_whole (g.K.Keeper.told c.args.files.now) c.args.words.now c.in-Ok.answer.status c.in-Ok.answer.text
-        (g.S.Sink.written c.args.out.now) (g.S.Sink.written c.write_all.new.out) c.in-Ok.ensures.answer
-        (c.in-Ok-write_all.ensures.whole ∙ ap (append_known (g.S.Sink.written c.args.out.now)) c.as_slice.ensures))
+    (g.S.Sink.written c.args.out.now) (g.S.Sink.written c.write_all.new.out)
+    (ends_whole (g.K.Keeper.told c.args.files.now) c.args.words.now c.in-Ok.answer.status c.in-Ok.answer.text
+    (g.S.Sink.written c.args.out.now) (g.S.Sink.written c.write_all.new.out) c.in-Ok.ensures.answer
+    (c.in-Ok-write_all.ensures.whole ∙ ap (append_known (g.S.Sink.written c.args.out.now)) c.as_slice.ensures))
 
 pub returns-in_default-clause-sound : goal.returns-in_default-clause-sound
 returns-in_default-clause-sound g c =
@@ -26,6 +26,9 @@ returns-in_default-clause-sound g c =
 
 pub returns-clause-sound : goal.returns-clause-sound
 returns-clause-sound g c =
-    sound (g.K.Keeper.told c.args.files.now) c.args.words.now status.WriteFault (g.S.Sink.written c.args.out.now) (g.S.Sink.written c.write_all.new.out)
-      (c.in-Ok.answer.status, c.in-Ok.answer.text, c.in-Ok.ensures.answer,
-        subst (λ (t : List ℕ). AddsPart (g.S.Sink.written c.args.out.now) (g.S.Sink.written c.write_all.new.out) t) c.as_slice.ensures c.in-Err.ensures.part)
+    sound (g.K.Keeper.told c.args.files.now) c.args.words.now status.WriteFault (g.S.Sink.written c.args.out.now) (g.S.Sink.written c.write_all.new.out) (
+      c.in-Ok.answer.status,
+      c.in-Ok.answer.text,
+      c.in-Ok.ensures.answer,
+      subst (λ (t : List ℕ). AddsPart (g.S.Sink.written c.args.out.now) (g.S.Sink.written c.write_all.new.out) t) c.as_slice.ensures c.in-Err.ensures.part,
+    )
