@@ -5,6 +5,8 @@ mod formulas;
 mod given;
 mod laws;
 mod rows;
+#[cfg(test)]
+mod tests;
 
 pub use laws::proved_rows_hold;
 pub use rows::{Row, RowList, rows_of};
