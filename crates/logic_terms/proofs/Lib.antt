@@ -9,3 +9,15 @@ pub mod Items
 pub mod Powers
 pub mod Whole
 pub mod Steps
+pub mod Over
+pub mod Reach
+pub mod Runs
+pub mod Prefix
+pub mod Checked
+pub mod Alike
+pub mod Telling
+pub mod Fields
+pub mod SortViews
+pub mod Closed
+pub mod Views
+pub mod SortedClosed

@@ -1,10 +1,12 @@
 -- What the evaluator finds, against the outcome of a run.
 use Rattle.std.specs.Prelude.{◌≡◌, ℕ, Bool, ℤ, List, [], ◌∷◌, map, MatchResult, true, false, Result, Option, Some, None}
-use Rattle.logic_terms.specs.Value.{Value, number, truth, record_of, Values, no_values, value, as_number}
-use Rattle.logic_terms.specs.Run.{Outcome, gives, wide, too_long, and_then, checked}
-use Rattle.logic_terms.specs.Meaning.{compute, filled, stored}
-use Rattle.logic_terms.specs.Node.{Arith, add, sub, mul, quo, rem, mod_by, pow, Quant, all, any}
+use Rattle.logic_terms.specs.Value.{Value, number, truth, record_of, Values, no_values, value}
+use Rattle.logic_terms.specs.Run.{Outcome, gives, wide, too_long}
+use Rattle.logic_terms.specs.Meaning.{filled, stored}
+use Rattle.logic_terms.specs.Node.{Arith, add, sub, mul, quo, rem, mod_by, pow, Op2, arith, sel, upd, Op3, sto, fill, Quant, all, any}
 use Rattle.logic_terms.specs.declared.found.Arithmetic.{Arithmetic}
+use Rattle.logic_terms.specs.declared.operators.Binary.{Binary}
+use Rattle.logic_terms.specs.declared.operators.Ternary.{Ternary}
 use Rattle.logic_terms.specs.declared.found.Found.{Found, fold-Found}
 use Rattle.logic_terms.specs.declared.found.Found.TheOpen.{Found-F}
 use Rattle.logic_terms.specs.declared.found.Variables.{Variables, fold-Variables}
@@ -64,12 +66,18 @@ arith_of Arithmetic.Rem = rem
 arith_of Arithmetic.Mod = mod_by
 arith_of Arithmetic.Pow = pow
 
+abbrev pub binary_of : Binary → Op2
+binary_of (Binary.Compute o) = arith (arith_of o)
+binary_of Binary.Select = sel
+binary_of (Binary.Update k) = upd k
+
+abbrev pub ternary_of : Ternary → Op3
+ternary_of Ternary.Store = sto
+ternary_of Ternary.Fill = fill
+
 abbrev pub quant_of : Bool → Quant
 quant_of true = all
 quant_of false = any
-
-abbrev pub calculated : Arith → ℤ → Outcome Value → Outcome Value
-calculated o x y = and_then y (λ v n. checked (compute o x (as_number v)) n)
 
 abbrev pub Gives : Outcome Value → Value → Type 0
 Gives (gives a n) v = a ≡ v

@@ -13,3 +13,6 @@ pub mod Run
 pub mod Found
 pub mod Names
 pub mod Arrays
+pub mod Places
+pub mod Size
+pub mod Levels

@@ -35,6 +35,20 @@ pub fn truth_of(v: &Found) -> bool
     }
 }
 
+/// The number that it is, or 0.
+pub fn into_number(v: Found) -> i128
+    ensures { result ≡ as_number (found v) }
+{
+    number_of(&v)
+}
+
+/// The truth value that it is, or false.
+pub fn into_truth(v: Found) -> bool
+    ensures { result ≡ as_truth (found v) }
+{
+    truth_of(&v)
+}
+
 /// The first index of an array, or 0.
 #[tactic(auto, using(crate::proofs::Items::first_stored))]
 pub fn first_of(v: &Found) -> i128

@@ -3,29 +3,42 @@
 
 mod arithmetic;
 mod arrays;
+mod constant;
 mod copy;
 mod copy_goal;
+mod equality;
+mod evaluator;
+mod forms;
 mod found;
 mod goal;
+mod kinds;
+mod laws;
 mod model;
 mod names;
+mod operators;
+mod places;
 mod put;
 mod same;
+mod same_found;
+mod same_sorts;
 mod sort;
 mod starved;
 mod syntax;
 mod views;
 
+pub use constant::is_constant;
 pub use copy_goal::copy_formulas;
+pub use equality::{same_formula, same_sort, same_term};
+pub use evaluator::truth;
 pub use found::TruthFault;
 pub use goal::{Call, CallList, Goal, Role, Symbol, SymbolList};
+pub use laws::{laws_of_arithmetic, laws_of_formulas, laws_of_terms};
 pub use model::{
     GoalArray, GoalModel, GoalValue, GoalValueList, ModelCall, ModelCallList, ModelSymbol,
     ModelSymbolList,
 };
 pub use names::names_nothing;
 pub use put::{negate, put_in};
-pub use same::{same_formula, same_term};
 pub use sort::{Sort, SortList};
 pub use starved::Starved;
 pub use syntax::{Formula, FormulaList, Term, TermList};
