@@ -5,7 +5,6 @@ use Rattle.logic_terms.specs.Node.{Node}
 use Rattle.logic_terms.specs.View.{formula}
 use Rattle.logic_terms.specs.Same.{same_node}
 use Rattle.logic_terms.specs.declared.syntax.Formula.{Formula}
-use Rattle.logic_terms.proofs.Injective.{same_formula-test}
 use Rattle.form_prover.specs.Given.{some_equals}
 
 -- what is left to search after so many
@@ -18,15 +17,15 @@ found_equal (e ∷ fs) f zero g h = refl
 found_equal (e ∷ fs) f (suc k) g h = found_equal fs f k g (omega arith)
 
 -- the element at k is a formula, which is tested
-at_place : (fs : List Formula) (f : Formula) (k : ℕ) (g : Formula) (r : Bool) → k < length fs → g ≡ get_or fs k g → (IsTrue r ↔ (g ≡ f))
+at_place : (fs : List Formula) (f : Formula) (k : ℕ) (g : Formula) (r : Bool) → k < length fs → g ≡ get_or fs k g → r ≡ same_node (formula g) (formula f)
     → left_equals (drop k fs) f ≡ (r || left_equals (drop (suc k) fs) f)
 at_place fs f k g r h e t =
     found_equal fs f k g h
     ∙ ap (λ (x : Formula). same_node (formula x) (formula f) || left_equals (drop (suc k) fs) f) (sym e)
-    ∙ ap (λ (b : Bool). b || left_equals (drop (suc k) fs) f) (sym (same_formula-test g f r t))
+    ∙ ap (λ (b : Bool). b || left_equals (drop (suc k) fs) f) (sym t)
 
 pub stop_here : (fs items : List Formula) (f : Formula) (k : ℕ) (g : Formula) (r : Bool) → items ≡ fs → k < length items → g ≡ get_or items k g
-    → (IsTrue r ↔ (g ≡ f)) → left_equals fs f ≡ left_equals (drop k fs) f → r ≡ true → true ≡ left_equals fs f
+    → r ≡ same_node (formula g) (formula f) → left_equals fs f ≡ left_equals (drop k fs) f → r ≡ true → true ≡ left_equals fs f
 stop_here fs items f k g r s h e t i y =
     let d = at_place items f k g r h e t in
     let c = ap (λ (xs : List Formula). left_equals (drop k xs) f) s in
@@ -34,7 +33,7 @@ stop_here fs items f k g r s h e t i y =
     sym (i ∙ sym c ∙ d ∙ u)
 
 pub go_on : (fs items : List Formula) (f : Formula) (k : ℕ) (g : Formula) (r : Bool) → items ≡ fs → k < length items → g ≡ get_or items k g
-    → (IsTrue r ↔ (g ≡ f)) → left_equals fs f ≡ left_equals (drop k fs) f → r ≡ false → left_equals fs f ≡ left_equals (drop (k + 1) fs) f
+    → r ≡ same_node (formula g) (formula f) → left_equals fs f ≡ left_equals (drop k fs) f → r ≡ false → left_equals fs f ≡ left_equals (drop (k + 1) fs) f
 go_on fs items f k g r s h e t i y =
     let d = at_place items f k g r h e t in
     let c = ap (λ (xs : List Formula). left_equals (drop k xs) f) s in

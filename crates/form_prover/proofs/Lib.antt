@@ -1,4 +1,3 @@
-pub mod Runs
 pub mod Valid
 pub mod Sound
 pub mod Numbering

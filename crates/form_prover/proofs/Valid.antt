@@ -8,7 +8,7 @@ use Rattle.logic_terms.specs.Run.{Outcome, gives, wide, too_long, run, most_node
 use Rattle.logic_terms.specs.Same.{same_node}
 use Rattle.logic_terms.specs.Sorting.{Problem, AllHold, IsValid}
 use Rattle.form_prover.specs.Given.{is_ground, truth_found, computed, is_true, is_false, some_equals, some_false, given_says}
-use Rattle.form_prover.proofs.Runs.{run-holds}
+use Rattle.logic_terms.proofs.Runs.{run-holds}
 use Rattle.logic_terms.proofs.SameNodes.{same_node-is}
 
 -- which of two tests came out true

@@ -4,7 +4,6 @@ pub mod Lists
 pub mod Rules
 pub mod Sorted
 pub mod SameNodes
-pub mod Injective
 pub mod Items
 pub mod Powers
 pub mod Whole

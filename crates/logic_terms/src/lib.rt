@@ -11,6 +11,7 @@ mod evaluator;
 mod forms;
 mod found;
 mod goal;
+mod injective;
 mod kinds;
 mod laws;
 mod model;
@@ -24,7 +25,6 @@ mod same_sorts;
 mod sort;
 mod starved;
 mod syntax;
-mod views;
 
 pub use constant::is_constant;
 pub use copy_goal::copy_formulas;
@@ -32,6 +32,7 @@ pub use equality::{same_formula, same_sort, same_term};
 pub use evaluator::truth;
 pub use found::TruthFault;
 pub use goal::{Call, CallList, Goal, Role, Symbol, SymbolList};
+pub use injective::views_are_injective;
 pub use laws::{laws_of_arithmetic, laws_of_formulas, laws_of_terms};
 pub use model::{
     GoalArray, GoalModel, GoalValue, GoalValueList, ModelCall, ModelCallList, ModelSymbol,
@@ -42,4 +43,3 @@ pub use put::{negate, put_in};
 pub use sort::{Sort, SortList};
 pub use starved::Starved;
 pub use syntax::{Formula, FormulaList, Term, TermList};
-pub use views::views_are_injective;
