@@ -1,7 +1,6 @@
 -- The test of two formulas, and the search for an equal one.
-use Rattle.std.proofs.Common.{◌≡◌, ℕ, zero, suc, ◌+◌, ◌<◌, refl, ap, sym, ◌∙◌, Bool, true, false, List, [], ◌∷◌, map, take, drop, get_or, length, arith}
-use Rattle.std.specs.Prelude.{IsTrue, ◌↔◌, ◌||◌}
-use Rattle.logic_terms.specs.Node.{Node}
+use Rattle.std.proofs.Common.{◌≡◌, ℕ, zero, suc, ◌+◌, ◌<◌, refl, ap, sym, ◌∙◌, Bool, true, false, List, [], ◌∷◌, map, drop, get_or, length, arith}
+use Rattle.std.specs.Prelude.{◌||◌}
 use Rattle.logic_terms.specs.View.{formula}
 use Rattle.logic_terms.specs.Same.{same_node}
 use Rattle.logic_terms.specs.declared.syntax.Formula.{Formula}

@@ -1,10 +1,10 @@
 -- The rows of a file of the first form, assertion by assertion.
-use Rattle.std.proofs.Common.{◌≡◌, ℕ, zero, suc, ◌+◌, ◌<◌, ◌≤◌, refl, ap, sym, subst, ◌∙◌, ◌⊎◌, inl, inr, Bool, true, false, Option, Some, None, List, [], ◌∷◌, ◌++◌, map, length, arith, append_assoc}
-use Rattle.std.specs.Prelude.{not, ◌&&◌, ◌||◌, ◌==◌}
+use Rattle.std.proofs.Common.{◌≡◌, ℕ, zero, suc, ◌<◌, ◌≤◌, refl, ap, sym, ◌∙◌, Bool, true, false, Option, Some, List, [], ◌∷◌, ◌++◌, map, length, arith, append_assoc}
+use Rattle.std.specs.Prelude.{not, ◌&&◌, ◌||◌}
 use Rattle.typed_units.specs.declared.checks.CheckKind.TheVariants as kind
 use Rattle.typed_units.specs.declared.checks.SiteKey.{SiteKey}
 use Rattle.typed_units.specs.declared.programs.Mode.TheVariants as mode
-use Rattle.typed_units.specs.Syntax.{at, Formal, Routine, Text}
+use Rattle.typed_units.specs.Syntax.{at}
 use Rattle.ada_values.specs.declared.place.Place.{Place}
 use Rattle.ada_values.specs.declared.shapes.Shape.TheVariants as shape
 use Rattle.ada_semantics.specs.Outcome.{site}
@@ -14,16 +14,15 @@ use Rattle.logic_terms.specs.Value.{numbers}
 use Rattle.vc_tree.specs.declared.AnyRole.TheVariants as any_role
 use Rattle.vc_tree.specs.Tree as tree
 use Rattle.vc_tree.specs.Tree.{Tree}
-use Rattle.vc_tree.specs.Goals.{Known, Way, SiteGoal, meet, learn, goal_at, goals_from, goals_of}
-use Rattle.vc_tree.specs.Rules.{and_then, bounds_of, formula_of, statements, symbol_of, inputs, tree_of}
+use Rattle.vc_tree.specs.Goals.{Way, SiteGoal, meet, learn, goal_at, goals_from}
+use Rattle.vc_tree.specs.Rules.{bounds_of, formula_of, statements, symbol_of, inputs, tree_of}
 use Rattle.first_form.specs.declared.form.FirstForm.{FirstForm}
 use Rattle.first_form.specs.declared.form.Assertion.{Assertion}
 use Rattle.first_form.specs.declared.form.Operand.{Operand}
 use Rattle.first_form.specs.declared.form.Operand.TheVariants.{Number, Name}
-use Rattle.form_prover.specs.declared.rows.Row.{Row}
-use Rattle.form_prover.specs.Program.{left_column, integer, place_in, compared, condition, assertions, procedure_of, program_of}
+use Rattle.form_prover.specs.Program.{left_column, integer, place_in, compared, assertions, procedure_of, program_of}
 use Rattle.form_prover.specs.Given.{given_says}
-use Rattle.form_prover.specs.Rows.{same_place, kind_number, same_site, all_said, sites_of, rows_from, rows_with, one_worker}
+use Rattle.form_prover.specs.Rows.{same_site, all_said, sites_of, rows_from, rows_with, one_worker}
 use Rattle.form_prover.specs.Formulas.{compared_node, condition_node, input_nodes, says, rows_after}
 use Rattle.form_prover.proofs.Numbering.{says-numbered}
 

@@ -1,13 +1,12 @@
 -- The prover says the same of a goal as of the formulas before their symbols and calls are numbered anew.
-use Rattle.std.proofs.Common.{◌≡◌, ℕ, zero, suc, refl, ap, sym, subst, ◌∙◌, ◌⊎◌, inl, inr, Bool, true, false, Option, Some, None, List, [], ◌∷◌, ◌++◌, map, arith}
-use Rattle.std.specs.Prelude.{not, ◌&&◌, ◌||◌, if◌then◌else◌}
-use Rattle.logic_terms.specs.Node.{Op1, Op2, Op3, OpN, fields, call, Quant, Node, num, flag, sym as symbol, bound, op1, op2, op3, opn, quant, Nodes, no_nodes, node}
-use Rattle.logic_terms.specs.Run.{run, most_nodes}
-use Rattle.logic_terms.specs.Goals.{symbols_in, symbols_of, calls_in, calls_of, own_call, each_once, place_in, all_symbols, all_calls, symbols_of_goal, calls_of_goal, renamed, renamed_all, numbered}
+use Rattle.std.proofs.Common.{◌≡◌, ℕ, refl, ap, sym, ◌∙◌, inl, inr, Bool, true, false, List, [], ◌∷◌, ◌++◌, map}
+use Rattle.std.specs.Prelude.{◌&&◌, ◌||◌}
+use Rattle.logic_terms.specs.Node.{fields, call, Node, num, flag, sym as symbol, bound, op1, op2, op3, opn, quant, Nodes, no_nodes, node}
+use Rattle.logic_terms.specs.Goals.{symbols_in, symbols_of, calls_in, calls_of, place_in, all_symbols, all_calls, symbols_of_goal, calls_of_goal, renamed, renamed_all, numbered}
 use Rattle.logic_terms.specs.Same.{same_node}
 use Rattle.vc_tree.proofs.Renaming.{In, in_left, in_right, in_each_once, number_at, number_at-place_in}
 use Rattle.vc_tree.proofs.Walk.{Is, last_is, is_before, in_symbols, in_calls}
-use Rattle.form_prover.specs.Given.{is_empty, is_ground, truth_found, computed, is_true, is_false, some_equals, some_false}
+use Rattle.form_prover.specs.Given.{is_empty, is_ground, computed, is_true, some_equals, some_false}
 use Rattle.form_prover.specs.Formulas.{says}
 use Rattle.logic_terms.proofs.SameNodes.{same_node-is, same_node-refl}
 

@@ -1,5 +1,5 @@
 -- The way along the assertions.
-use Rattle.std.proofs.Common.{◌≡◌, ℕ, zero, suc, ◌+◌, ◌<◌, ◌≤◌, refl, ap, sym, subst, ◌∙◌, Bool, true, false, Option, List, [], ◌∷◌, ◌++◌, map, drop, get_or, length, arith, append_assoc}
+use Rattle.std.proofs.Common.{◌≡◌, ℕ, zero, suc, ◌+◌, ◌<◌, ◌≤◌, refl, ap, sym, ◌∙◌, Bool, false, Option, List, [], ◌∷◌, ◌++◌, map, drop, get_or, length, arith, append_assoc}
 use Rattle.std.specs.Prelude.{◌||◌}
 use Rattle.std.proofs.lemmas.List.{map-append}
 use Rattle.logic_terms.specs.Node.{Node}
@@ -9,7 +9,7 @@ use Rattle.first_form.specs.declared.form.FirstForm.{FirstForm}
 use Rattle.first_form.specs.declared.form.Assertion.{Assertion}
 use Rattle.form_prover.specs.declared.rows.Row.{Row}
 use Rattle.form_prover.specs.Program.{procedure_of, program_of}
-use Rattle.form_prover.specs.Given.{computed, is_false, some_false}
+use Rattle.form_prover.specs.Given.{is_false, some_false}
 use Rattle.form_prover.specs.Formulas.{condition_node, static_truth, input_nodes, row_of, rows_after}
 use Rattle.form_prover.specs.Rows.{one_worker}
 use Rattle.form_prover.proofs.Steps.{computed_static, some_false_more, some_false_inputs}

@@ -1,9 +1,7 @@
 -- A site whose row is proved is one at which no run fails first.
-use Rattle.std.proofs.Common.{◌≡◌, ℕ, zero, suc, ◌+◌, refl, ap, sym, subst, ◌∙◌, ◌⊎◌, inl, inr, Bool, true, false, Option, Some, None, List, [], ◌∷◌, arith}
-use Rattle.std.specs.Prelude.{not, ◌&&◌, ◌||◌, ◌<◌, length, slice_index_or}
+use Rattle.std.proofs.Common.{◌≡◌, ℕ, zero, suc, refl, ap, sym, subst, ◌∙◌, inl, inr, true, Option, Some, List, [], ◌∷◌, arith}
+use Rattle.std.specs.Prelude.{not, ◌||◌, ◌<◌, length, slice_index_or}
 use Rattle.ada_values.specs.Value.{Val}
-use Rattle.typed_units.specs.declared.checks.CheckKind.{CheckKind}
-use Rattle.typed_units.specs.declared.checks.CheckKind.TheVariants as kind
 use Rattle.typed_units.specs.declared.checks.SiteKey.{SiteKey}
 use Rattle.ada_semantics.specs.Plain.{plain, fails, inputs_fit}
 use Rattle.vc_tree.specs.Tree.{Tree}
@@ -18,7 +16,7 @@ use Rattle.form_prover.proofs.Exact.{input_tree, tree_from, tree_is}
 use Rattle.vc_tree.specs.Sound.{ValidAt}
 use Rattle.vc_tree.proofs.Inputs.{both_true}
 use Rattle.form_prover.specs.Given.{given_says}
-use Rattle.form_prover.specs.Rows.{same_place, kind_number, same_site, all_said, sites_of, rows_from, rows_with, one_worker}
+use Rattle.form_prover.specs.Rows.{same_site, all_said, sites_of, rows_from, rows_with, one_worker}
 use Rattle.form_prover.proofs.Valid.{or_cases, given_valid}
 
 same_site-refl : (c : SiteKey) → same_site c c ≡ true

@@ -1,9 +1,9 @@
 -- What the prover says yes to is valid.
-use Rattle.std.proofs.Common.{◌≡◌, ℕ, zero, suc, refl, ap, sym, subst, ◌∙◌, ◌⊎◌, inl, inr, Bool, true, false, Option, Some, None, List, [], ◌∷◌, arith}
-use Rattle.std.specs.Prelude.{not, ◌&&◌, ◌||◌, if◌then◌else◌}
+use Rattle.std.proofs.Common.{◌≡◌, refl, ap, sym, ◌∙◌, ◌⊎◌, inl, inr, Bool, true, false, Option, Some, None, List, [], ◌∷◌}
+use Rattle.std.specs.Prelude.{◌||◌, if◌then◌else◌}
 use Rattle.logic_terms.specs.Node.{Node}
 use Rattle.logic_terms.specs.Value.{Value, number, truth, array, record_of, as_truth}
-use Rattle.logic_terms.specs.Meaning.{World, meaning, holds}
+use Rattle.logic_terms.specs.Meaning.{World, holds}
 use Rattle.logic_terms.specs.Run.{Outcome, gives, wide, too_long, run, most_nodes}
 use Rattle.logic_terms.specs.Same.{same_node}
 use Rattle.logic_terms.specs.Sorting.{Problem, AllHold, IsValid}

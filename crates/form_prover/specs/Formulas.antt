@@ -1,5 +1,5 @@
 -- The formulas of a file of the first form, and the rows that they make, assertion by assertion.
-use Rattle.std.specs.Prelude.{ℕ, zero, suc, Bool, ◌||◌, Option, Some, None, List, [], ◌∷◌, ◌++◌, unwrap_or, ℤ, pos, negsuc}
+use Rattle.std.specs.Prelude.{ℕ, zero, suc, Bool, ◌||◌, Option, Some, None, List, [], ◌∷◌, ◌++◌, unwrap_or, pos}
 use Rattle.typed_units.specs.declared.operators.Relation.{Relation}
 use Rattle.typed_units.specs.declared.checks.CheckKind.TheVariants as kind
 use Rattle.ada_semantics.specs.Outcome.{site}

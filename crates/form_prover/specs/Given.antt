@@ -1,5 +1,5 @@
 -- The prover that looks at what is given.
-use Rattle.std.specs.Prelude.{ℕ, Bool, true, false, not, ◌&&◌, ◌||◌, Option, Some, None, List, [], ◌∷◌, if◌then◌else◌}
+use Rattle.std.specs.Prelude.{ℕ, Bool, true, false, ◌&&◌, ◌||◌, Option, Some, None, List, [], ◌∷◌, if◌then◌else◌}
 use Rattle.logic_terms.specs.Node.{Node}
 use Rattle.logic_terms.specs.Value.{Value, truth}
 use Rattle.logic_terms.specs.Run.{Outcome, gives, run, most_nodes}

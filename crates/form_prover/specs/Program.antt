@@ -1,11 +1,9 @@
 -- The typed program that a file of the first form is.
-use Rattle.std.specs.Prelude.{ℕ, zero, suc, ◌+◌, ◌^◌, true, false, Option, Some, None, List, [], ◌∷◌, map, unwrap_or, ℤ, pos, negsuc}
+use Rattle.std.specs.Prelude.{ℕ, suc, None, List, [], ◌∷◌, map, unwrap_or, pos, negsuc}
 use Rattle.ada_values.specs.Value as ada
 use Rattle.ada_values.specs.declared.place.Place.{Place}
 use Rattle.ada_values.specs.declared.scalars.Scalar.{Scalar}
-use Rattle.ada_values.specs.declared.shapes.Shape.{Shape}
 use Rattle.ada_values.specs.declared.shapes.Shape.TheVariants as shape
-use Rattle.typed_units.specs.declared.operators.Relation.{Relation}
 use Rattle.typed_units.specs.declared.programs.Mode.TheVariants as mode
 use Rattle.typed_units.specs.Syntax as text
 use Rattle.typed_units.specs.Syntax.{param, present, compare, Ex, at, Nd, static, read, op2, Sts, Routine, Text}

@@ -1,5 +1,5 @@
 -- The rows of a report, as one worker makes them.
-use Rattle.std.specs.Prelude.{ℕ, Bool, true, false, not, ◌&&◌, ◌||◌, ◌==◌, Option, Some, None, List, [], ◌∷◌, map, if◌then◌else◌}
+use Rattle.std.specs.Prelude.{ℕ, Bool, true, not, ◌&&◌, ◌||◌, ◌==◌, Option, Some, None, List, [], ◌∷◌}
 use Rattle.ada_values.specs.declared.place.Place.{Place}
 use Rattle.typed_units.specs.declared.checks.CheckKind.{CheckKind}
 use Rattle.typed_units.specs.declared.checks.CheckKind.TheVariants as kind

@@ -1,5 +1,5 @@
 -- What a row that is proved says of runs.
-use Rattle.std.specs.Prelude.{◌≡◌, ℕ, true, List, [], ◌∷◌, Contains}
+use Rattle.std.specs.Prelude.{◌≡◌, ℕ, true, List, Contains}
 use Rattle.ada_values.specs.Value.{Val}
 use Rattle.ada_semantics.specs.Plain.{plain, fails, inputs_fit}
 use Rattle.first_form.specs.declared.form.FirstForm.{FirstForm}

@@ -1,16 +1,16 @@
 -- How a run ends.
-use Rattle.std.proofs.Common.{◌≡◌, ℕ, refl, ap, sym, subst, ◌∙◌, ◌⊎◌, inl, inr, Bool, true, false, Option, Some, None, Result, Ok, Err, List, [], ◌∷◌}
+use Rattle.std.proofs.Common.{◌≡◌, ℕ, sym, subst, inl, inr, Bool, true, false, Option, Some, None, Result, Ok, Err, List}
 use Rattle.std.specs.Prelude.{codes, IfOk, if◌then◌else◌}
 use Rattle.std.specs.List.{list_all}
 use Rattle.std.specs.Io.KnownBytes.{append_known}
-use Rattle.keeper_io.specs.Maps.{Map, Holds}
+use Rattle.keeper_io.specs.Maps.{Map}
 use Rattle.first_form.specs.declared.form.FirstForm.{FirstForm}
 use Rattle.first_form.specs.Places.{first_unknown}
 use Rattle.gnatprove_core.specs.declared.status.Status.{Status}
 use Rattle.gnatprove_core.specs.declared.status.Status.TheVariants as status
 use Rattle.gnatprove_core.specs.declared.answer.Answer.{Answer}
 use Rattle.gnatprove_core.specs.Words.{file_of}
-use Rattle.gnatprove_core.specs.Answers.{status_of, rows_of, Refuses, AnswersForm, HasNoForm, AnswersBytes, AnswersFile, AnswersRead, AnswersNamed, Answers, Ends}
+use Rattle.gnatprove_core.specs.Answers.{rows_of, Refuses, AnswersForm, HasNoForm, AnswersBytes, AnswersFile, AnswersRead, AnswersNamed, Answers, Ends}
 
 -- an answer has one of the statuses that an answer can have
 abbrev pub IsWritten : Status → Type 0

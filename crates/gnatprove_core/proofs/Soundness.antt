@@ -1,20 +1,16 @@
 -- A line that calls a check proved is the row of a site at which no run fails first.
 use Rattle.std.proofs.Common.{◌≡◌, ◌≢◌, ℕ, zero, suc, ◌<◌, ◌^◌, refl, ap, sym, subst, ◌∙◌, ◌⊎◌, inl, inr, Bool, true, false, Option, Some, None, List, [], ◌∷◌, ◌++◌, ◌+◌, map, take, length, arith, lit<, append_assoc}
 use Rattle.std.proofs.lemmas.List.{append_cancel_left}
-use Rattle.std.specs.Prelude.{not, ◌&&◌, ◌||◌, ◌==◌, nat_le, codes, slice_index_or, Contains, All, Any, if◌then◌else◌}
+use Rattle.std.specs.Prelude.{not, ◌&&◌, ◌==◌, nat_le, codes, slice_index_or, Contains, All, if◌then◌else◌}
 use Rattle.std.specs.List.{list_all}
-use Rattle.std.specs.Char.{is_ascii_alphanumeric}
 use Rattle.std.specs.Str.{bytes_eq}
 use Rattle.std.specs.Io.KnownBytes.{append_known}
-use Rattle.ada_values.specs.Value.{Val}
-use Rattle.ada_values.specs.declared.place.Place.{Place}
 use Rattle.typed_units.specs.declared.checks.CheckKind.{CheckKind}
 use Rattle.typed_units.specs.declared.checks.SiteKey.{SiteKey}
-use Rattle.ada_semantics.specs.Plain.{plain, fails, inputs_fit}
-use Rattle.keeper_io.specs.Maps.{Map, entry_of, Holds}
-use Rattle.keeper_io.specs.Pieces.{AddsPart}
+use Rattle.ada_semantics.specs.Plain.{fails}
+use Rattle.keeper_io.specs.Maps.{Map, entry_of}
 use Rattle.first_form.specs.declared.form.FirstForm.{FirstForm}
-use Rattle.first_form.specs.Form.{IsForm, text_of}
+use Rattle.first_form.specs.Form.{IsForm}
 use Rattle.first_form.specs.declared.form.Assertion.{Assertion}
 use Rattle.first_form.specs.Places.{first_unknown}
 use Rattle.first_form.proofs.Whole.{same_form}
@@ -22,15 +18,14 @@ use Rattle.form_prover.specs.declared.rows.Row as prover
 use Rattle.logic_terms.specs.Node.{Node}
 use Rattle.ada_semantics.specs.Outcome.{site}
 use Rattle.typed_units.specs.declared.checks.CheckKind.TheVariants as kind
-use Rattle.form_prover.specs.Program.{place_in, left_column, procedure_of, program_of}
+use Rattle.form_prover.specs.Program.{place_in, left_column}
 use Rattle.form_prover.specs.Formulas.{condition_node, input_nodes, rows_after}
 use Rattle.form_prover.proofs.Exact.{one_worker_is}
 use Rattle.form_prover.proofs.Sound.{rows_hold}
 use Rattle.gnat_report.specs.declared.rows.Row.{Row}
-use Rattle.gnat_report.specs.declared.rows.RowStatus.{RowStatus}
 use Rattle.gnat_report.specs.declared.rows.RowStatus.TheVariants as row
 use Rattle.gnat_report.specs.Text.{row_line, report_text_of}
-use Rattle.gnat_report.specs.Reading.{whole_lines, IsRowName, IsPlace, IsRow, SaysTheSame}
+use Rattle.gnat_report.specs.Reading.{whole_lines, IsRowName, IsPlace, IsRow}
 use Rattle.gnat_report.proofs.Bytes.{Lacks, Lacks-from_test, Lacks-from_All, Lacks-append}
 use Rattle.gnat_report.proofs.Lines.{cut_in}
 use Rattle.gnat_report.proofs.Parts.{fault_lines_differ}
@@ -39,7 +34,7 @@ use Rattle.gnatprove_core.specs.declared.status.Status.{Status}
 use Rattle.gnatprove_core.specs.declared.status.Status.TheVariants as status
 use Rattle.gnatprove_core.specs.Words.{is_file_byte, is_file_name, file_of}
 use Rattle.gnatprove_core.specs.Texts.{read_fault_text}
-use Rattle.gnatprove_core.specs.Answers.{row_status, row_in, rows_of, Reports, HasForm, AnswersForm, AnswersBytes, AnswersFile, AnswersRead, AnswersNamed, Answers, Ends}
+use Rattle.gnatprove_core.specs.Answers.{row_status, row_in, rows_of, AnswersForm, AnswersBytes, AnswersFile, AnswersRead, AnswersNamed, Answers, Ends}
 use Rattle.gnatprove_core.specs.Sound.{Accepted, CallsProved, NeverFailsAt, IsSound}
 
 -- ---- the name of a file

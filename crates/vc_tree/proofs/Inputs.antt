@@ -1,37 +1,34 @@
 -- The inputs of a run make the assumptions of the tree true.
-use Rattle.std.proofs.Common.{◌≡◌, ℕ, zero, suc, ◌+◌, refl, ap, sym, subst, ◌∙◌, ◌⊎◌, inl, inr, Bool, true, false, Option, Some, None, List, [], ◌∷◌, ◌++◌, ℤ, pos, arith}
-use Rattle.std.specs.Prelude.{not, ◌&&◌, if◌then◌else◌, slice_get, is_none, ◌==◌}
-use Rattle.std.specs.Int.RustNames.{int_le}
+use Rattle.std.proofs.Common.{◌≡◌, ℕ, zero, suc, ◌+◌, refl, ap, sym, subst, ◌∙◌, Bool, true, false, Option, Some, None, List, [], ◌∷◌, ◌++◌, ℤ, pos, arith}
+use Rattle.std.specs.Prelude.{◌&&◌, if◌then◌else◌, slice_get, ◌==◌}
 use Rattle.ada_values.specs.Value as ada
-use Rattle.ada_values.specs.Scalars.{within, in_scalar}
-use Rattle.ada_values.specs.Shapes.{fits, in_shape}
+use Rattle.ada_values.specs.Scalars.{in_scalar}
+use Rattle.ada_values.specs.Shapes.{fits}
 use Rattle.ada_values.specs.declared.scalars.Scalar.{Scalar}
 use Rattle.ada_values.specs.declared.shapes.Shape.{Shape}
 use Rattle.ada_values.specs.declared.shapes.Shape.TheVariants as shape
 use Rattle.typed_units.specs.declared.checks.SiteKey.{SiteKey}
 use Rattle.typed_units.specs.declared.programs.Mode.{Mode}
 use Rattle.typed_units.specs.declared.programs.Mode.TheVariants as mode
-use Rattle.typed_units.specs.Syntax.{param, Formal}
+use Rattle.typed_units.specs.Syntax.{Formal}
 use Rattle.ada_semantics.specs.Outcome.{pick}
-use Rattle.ada_semantics.specs.Store.{Frame, begin, whole, full_if, nth}
+use Rattle.ada_semantics.specs.Store.{begin, whole, full_if, nth}
 use Rattle.ada_semantics.specs.Plain.{in_mode, first_of, rest_of, given_params, param_fits, params_fit, started}
 use Rattle.logic_terms.specs.Node as node
 use Rattle.logic_terms.specs.Node.{Node}
 use Rattle.logic_terms.specs.Value as logic
 use Rattle.logic_terms.specs.Value.{Kind, numbers}
-use Rattle.logic_terms.specs.Meaning.{World, meaning, holds}
+use Rattle.logic_terms.specs.Meaning.{World, holds}
 use Rattle.logic_terms.specs.Sorting.{AllHold}
-use Rattle.logic_terms.specs.declared.goal.Role.{Role}
-use Rattle.vc_tree.specs.declared.AnyRole.{AnyRole}
 use Rattle.vc_tree.specs.declared.AnyRole.TheVariants as any_role
 use Rattle.vc_tree.specs.Tree as tree
 use Rattle.vc_tree.specs.Tree.{Tree}
 use Rattle.vc_tree.specs.Goals.{Met, Way, role_of, meet, learn, kind_met, goals_from}
-use Rattle.vc_tree.specs.Rules.{and_then, scalar_of, bounds_of, is_in, input, inputs}
+use Rattle.vc_tree.specs.Rules.{and_then, scalar_of, bounds_of, is_in, inputs}
 use Rattle.vc_tree.specs.Sound.{ValidAt}
 use Rattle.vc_tree.proofs.Results.{none_some}
-use Rattle.vc_tree.proofs.Terms.{Same, Agree}
-use Rattle.vc_tree.proofs.Walk.{IsNumeric, MetNumbers, AllHold-append}
+use Rattle.vc_tree.proofs.Terms.{Agree}
+use Rattle.vc_tree.proofs.Walk.{IsNumeric, AllHold-append}
 
 -- ---- the world of the inputs
 

@@ -1,5 +1,5 @@
 -- Where all goals of a site are valid, no run fails first there.
-use Rattle.std.proofs.Common.{◌≡◌, ℕ, zero, suc, refl, ap, sym, subst, ◌∙◌, ◌⊎◌, inl, inr, Bool, true, false, Option, Some, None, List, [], ◌∷◌, map, arith}
+use Rattle.std.proofs.Common.{◌≡◌, ℕ, refl, ap, subst, ◌∙◌, inl, inr, Bool, true, false, Option, Some, None, List, [], map, arith}
 use Rattle.std.specs.Prelude.{◌&&◌, if◌then◌else◌, is_none}
 use Rattle.ada_values.specs.Value.{Val}
 use Rattle.typed_units.specs.declared.checks.SiteKey.{SiteKey}
@@ -10,12 +10,12 @@ use Rattle.ada_semantics.specs.Outcome.{Res, bind, pick}
 use Rattle.ada_semantics.specs.Store.{Store, begin}
 use Rattle.ada_semantics.specs.Values.{Calls}
 use Rattle.ada_semantics.specs.Running.{Stop, goes, leaves, returns, next, run_of}
-use Rattle.ada_semantics.specs.Plain.{condition, ended, one_call, routine_at, calls_within, given_params, started, Plain, ends, fails, plain_of, plain_run, plain, params_fit, globals_fit, inputs_fit}
+use Rattle.ada_semantics.specs.Plain.{condition, ended, one_call, calls_within, given_params, started, fails, plain_of, plain_run, params_fit, globals_fit, inputs_fit}
 use Rattle.vc_tree.specs.Tree.{Tree}
-use Rattle.vc_tree.specs.Goals.{Way, goals_from, goals_of}
-use Rattle.vc_tree.specs.Rules.{and_then, is_done, statements, symbol_of, inputs, tree_of}
+use Rattle.vc_tree.specs.Goals.{Way, goals_of}
+use Rattle.vc_tree.specs.Rules.{and_then, is_done, statements, symbol_of, inputs}
 use Rattle.vc_tree.specs.Sound.{ValidAt, Proved}
-use Rattle.vc_tree.proofs.Results.{none_some, bind_fails, Went}
+use Rattle.vc_tree.proofs.Results.{none_some, bind_fails}
 use Rattle.vc_tree.proofs.Walk.{walk}
 use Rattle.vc_tree.proofs.Inputs.{both_true, world_of, world_numeric, inputs_agree, inputs_walk, all_met}
 

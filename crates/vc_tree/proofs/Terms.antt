@@ -1,5 +1,5 @@
 -- Where an expression has a term, its value is the term's in a world that agrees with the frame.
-use Rattle.std.proofs.Common.{◌≡◌, ℕ, zero, suc, refl, ap, sym, ◌∙◌, ◌⊎◌, inl, inr, Bool, true, false, Option, Some, None, List, [], ◌∷◌, ℤ, pos, ◌+ℤ◌}
+use Rattle.std.proofs.Common.{◌≡◌, ℕ, zero, suc, refl, ap, sym, ◌∙◌, inl, inr, Bool, Option, Some, None, [], ℤ}
 use Rattle.std.specs.Prelude.{not}
 use Rattle.std.specs.Ordering.{int_eq}
 use Rattle.std.specs.Int.RustNames.{int_lt, int_le}
@@ -8,17 +8,17 @@ use Rattle.ada_values.specs.declared.place.Place.{Place}
 use Rattle.typed_units.specs.declared.operators.Relation.{Relation}
 use Rattle.typed_units.specs.declared.operators.Relation.TheVariants as relation
 use Rattle.typed_units.specs.declared.checks.SiteKey.{SiteKey}
-use Rattle.typed_units.specs.Syntax.{Var, param, local, global, turn, index, answer, present, compare, Ex, at, Nd, static, read, op2}
-use Rattle.ada_semantics.specs.Outcome.{Res, gives, fails, short, unset, bind, spend, wanted}
+use Rattle.typed_units.specs.Syntax.{Var, param, present, compare, Ex, at, static, read, op2}
+use Rattle.ada_semantics.specs.Outcome.{gives, fails, bind, wanted}
 use Rattle.ada_semantics.specs.Store.{Frame, whole}
 use Rattle.ada_semantics.specs.Operators as run
-use Rattle.ada_semantics.specs.Values.{Calls, value_of, node_value, place_of}
+use Rattle.ada_semantics.specs.Values.{Calls, value_of}
 use Rattle.logic_terms.specs.Node as node
 use Rattle.logic_terms.specs.Node.{Node}
 use Rattle.logic_terms.specs.Value as logic
 use Rattle.logic_terms.specs.Meaning.{World, meaning, holds}
 use Rattle.vc_tree.specs.Rules.{and_then, related, term_of, formula_of, symbol_of}
-use Rattle.vc_tree.proofs.Results.{Gave, bind_gives, Went, bind_fails, none_some, short_gives, short_fails}
+use Rattle.vc_tree.proofs.Results.{bind_gives, bind_fails, none_some, short_gives, short_fails}
 use Rattle.vc_tree.proofs.Numbers.{int_eq_same, int_lt_next}
 
 -- a value and a term that are one number

@@ -1,29 +1,28 @@
 -- A run of assertions that fails at a site makes one of the site's goals invalid.
-use Rattle.std.proofs.Common.{◌≡◌, ℕ, zero, suc, refl, ap, sym, subst, ◌∙◌, ◌⊎◌, inl, inr, Bool, true, false, Option, Some, None, List, [], ◌∷◌, ◌++◌, map, ℤ, pos}
-use Rattle.std.specs.Prelude.{not, ◌&&◌, if◌then◌else◌}
+use Rattle.std.proofs.Common.{◌≡◌, ℕ, zero, suc, refl, ap, sym, subst, ◌∙◌, ◌⊎◌, inl, inr, Bool, true, false, Option, Some, None, List, [], ◌∷◌, ◌++◌, map}
 use Rattle.ada_values.specs.Value as ada
 use Rattle.ada_values.specs.declared.place.Place.{Place}
 use Rattle.typed_units.specs.declared.checks.CheckKind.TheVariants as check_kind
 use Rattle.typed_units.specs.declared.checks.SiteKey.{SiteKey}
 use Rattle.typed_units.specs.Syntax as text
 use Rattle.typed_units.specs.Syntax.{Ex, at, Nd, St, st, assert, Sts, done}
-use Rattle.ada_semantics.specs.Outcome.{Res, gives, fails, short, unset, bind, spend, site, check}
+use Rattle.ada_semantics.specs.Outcome.{gives, fails, site, check}
 use Rattle.ada_semantics.specs.Store.{Frame}
 use Rattle.ada_semantics.specs.Operators.{truth_of}
-use Rattle.ada_semantics.specs.Values.{Calls, value_of, place_of}
-use Rattle.ada_semantics.specs.Running.{Stop, goes, leaves, returns, next, holds_at, run_of, step_of}
+use Rattle.ada_semantics.specs.Values.{Calls, value_of}
+use Rattle.ada_semantics.specs.Running.{Stop, goes, next, run_of, step_of}
 use Rattle.logic_terms.specs.Node.{Node}
 use Rattle.logic_terms.specs.Value as logic
 use Rattle.logic_terms.specs.Value.{Kind, numbers, no_kinds}
-use Rattle.logic_terms.specs.Meaning.{World, meaning, holds}
-use Rattle.logic_terms.specs.Sorting.{Called, Signature, Problem, nth, HasKind, is_of, are_of, IsWorldOf, AllHold, IsValid}
-use Rattle.logic_terms.specs.Goals.{symbols_in, calls_in, all_symbols, all_calls, each_once, symbols_of_goal, calls_of_goal, place_in, renamed, numbered}
+use Rattle.logic_terms.specs.Meaning.{World, holds}
+use Rattle.logic_terms.specs.Sorting.{Called, nth, HasKind, is_of, IsWorldOf, AllHold, IsValid}
+use Rattle.logic_terms.specs.Goals.{symbols_in, calls_in, all_symbols, all_calls, symbols_of_goal, calls_of_goal, place_in, numbered}
 use Rattle.vc_tree.specs.Tree as tree
 use Rattle.vc_tree.specs.Tree.{Tree}
-use Rattle.vc_tree.specs.Goals.{Met, Known, Way, SiteGoal, learn, kind_met, call_known, goal_at, goals_from}
+use Rattle.vc_tree.specs.Goals.{Way, learn, kind_met, call_known, goal_at, goals_from}
 use Rattle.vc_tree.specs.Rules.{and_then, formula_of, symbol_of, statements}
 use Rattle.vc_tree.specs.Sound.{ValidAt}
-use Rattle.vc_tree.proofs.Results.{Gave, bind_gives, Went, bind_fails, none_some, short_gives, short_fails}
+use Rattle.vc_tree.proofs.Results.{bind_gives, bind_fails, none_some, short_gives, short_fails}
 use Rattle.vc_tree.proofs.Renaming.{In, in_left, in_right, in_each_once, number_at, number_at-place_in, Renames, meaning-renamed}
 use Rattle.vc_tree.proofs.Terms.{Agree, Truth, formula_value, formula_never_fails}
 

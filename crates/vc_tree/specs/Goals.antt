@@ -1,8 +1,8 @@
 -- The goals of a tree: one for each check, in preorder.
-use Rattle.std.specs.Prelude.{ℕ, zero, suc, ◌==◌, List, [], ◌∷◌, ◌++◌, map, if◌then◌else◌}
+use Rattle.std.specs.Prelude.{ℕ, suc, ◌==◌, List, [], ◌∷◌, ◌++◌, map, if◌then◌else◌}
 use Rattle.logic_terms.specs.Node.{Node}
 use Rattle.logic_terms.specs.Value.{Kind, numbers, no_kinds}
-use Rattle.logic_terms.specs.Sorting.{Called, Signature, Problem}
+use Rattle.logic_terms.specs.Sorting.{Called, Problem}
 use Rattle.logic_terms.specs.Goals.{symbols_of_goal, calls_of_goal, numbered}
 use Rattle.logic_terms.specs.declared.goal.Role.{Role}
 use Rattle.logic_terms.specs.declared.goal.Role.TheVariants as role

@@ -1,5 +1,5 @@
 -- The tree of a subprogram, by the rules for what is built so far: scalar inputs, and assertions that compare numbers.
-use Rattle.std.specs.Prelude.{ℕ, suc, Bool, true, false, Option, Some, None, ◌&&◌, if◌then◌else◌, is_none, slice_get, List, [], ◌∷◌, ℤ, pos}
+use Rattle.std.specs.Prelude.{ℕ, suc, Bool, true, false, Option, Some, None, ◌&&◌, if◌then◌else◌, is_none, slice_get, List, [], ◌∷◌, pos}
 use Rattle.ada_values.specs.Value as ada
 use Rattle.ada_values.specs.declared.scalars.Scalar.{Scalar}
 use Rattle.ada_values.specs.declared.shapes.Shape.{Shape}
@@ -7,7 +7,6 @@ use Rattle.ada_values.specs.declared.shapes.Shape.TheVariants as shape
 use Rattle.typed_units.specs.declared.operators.Relation.{Relation}
 use Rattle.typed_units.specs.declared.operators.Relation.TheVariants as relation
 use Rattle.typed_units.specs.declared.checks.CheckKind.TheVariants as kind
-use Rattle.typed_units.specs.declared.checks.SiteKey.{SiteKey}
 use Rattle.typed_units.specs.declared.programs.Mode.{Mode}
 use Rattle.typed_units.specs.declared.programs.Mode.TheVariants as mode
 use Rattle.typed_units.specs.Syntax.{Var, param, present, Op2, compare, Ex, at, Nd, static, read, op2, St, st, assert, Sts, done, Formal, Routine, Text}

@@ -1,5 +1,5 @@
 -- What it means that the goals of a site are valid.
-use Rattle.std.specs.Prelude.{◌≡◌, ℕ, Bool, true, Option, Some, List, [], ◌∷◌}
+use Rattle.std.specs.Prelude.{◌≡◌, ℕ, true, Some, List, [], ◌∷◌}
 use Rattle.ada_values.specs.Value.{Val}
 use Rattle.logic_terms.specs.Sorting.{IsValid}
 use Rattle.typed_units.specs.declared.checks.SiteKey.{SiteKey}

@@ -1,4 +1,4 @@
-use Rattle.std.proofs.Common.{◌≡◌, ◌∙◌, ap, sym, subst, ℕ, List, [], false}
+use Rattle.std.proofs.Common.{◌∙◌, ap, sym, subst, ℕ, List, false}
 use Rattle.form_prover.specs.declared.rows.Row.{Row}
 use Rattle.form_prover.specs.Formulas.{input_nodes}
 use Rattle.form_prover.proofs.Passing.{Passed, started, passed_all}

@@ -1,4 +1,4 @@
-use Rattle.std.proofs.Common.{◌≡◌, ◌∙◌, ap, subst, refl, ℕ, List}
+use Rattle.std.proofs.Common.{◌∙◌, ap, subst, refl, ℕ, List}
 use Rattle.keeper_io.specs.Pieces.{AddsPart}
 use Rattle.std.specs.Io.KnownBytes.{append_known}
 use Rattle.gnatprove_core.specs.declared.status.Status.TheVariants as status
