@@ -25,6 +25,8 @@ mod same_sorts;
 mod sort;
 mod starved;
 mod syntax;
+#[cfg(test)]
+mod tests;
 
 pub use constant::is_constant;
 pub use copy_goal::copy_formulas;
