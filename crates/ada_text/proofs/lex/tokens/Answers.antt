@@ -1,0 +1,35 @@
+use Rattle.std.proofs.Common.{◌≡◌, ℕ, List, ◌∷◌, [], ◌++◌, ◌+◌, ap, sym, ◌∙◌, drop, append-nil}
+use Rattle.std.proofs.lemmas.List.{take_rest}
+use Rattle.ada_text.specs.declared.token.Token.{Token}
+use Rattle.ada_text.specs.Tokens.{before, tokens_from, tokens_in, tokens_of, item_at}
+use Rattle.ada_text.proofs.Reading.{before-nil, turn, turn_within, one_token, no_token}
+use Rattle.ada_text.proofs.lex.tokens.Goals as goal
+
+pub loop-at-init : goal.loop-at-init
+unfolding tokens_in
+loop-at-init c = (
+  ap (λ (f : List Token). before f (tokens_from c.skipped-at.result 0 (drop c.skipped-at.result c.args.text.now))) c.new-found.ensures
+      ∙ before-nil _
+      ∙ ap (λ (k : ℕ). tokens_from k 0 (drop k c.args.text.now)) c.skipped-at.ensures.value,
+  c.skipped-at.ensures.within,
+)
+
+pub loop-at-preserved-in_ok-push : goal.loop-at-preserved-in_ok-push
+loop-at-preserved-in_ok-push c =
+    let i = c.in_ok-item.item in
+    let pushed : c.push.new.self ≡ c.loop-at.found ++ tokens_of c.loop-at.at i = c.in_ok-push.ensures.ok ∙ ap (λ (l : List Token). c.loop-at.found ++ l) (sym (one_token c.loop-at.at i c.in-Some.kind c.in-Some.is)) in (
+      ap (λ (l : List Token). before l (tokens_from (c.loop-at.at + i.length) 0 (drop (c.loop-at.at + i.length) c.args.text.now))) pushed
+          ∙ turn c.loop-at.found c.loop-at.at i c.args.text.now _ (take_rest c.args.text.now c.loop-at.at) c.in_ok-item.ensures.value c.in_ok-item.ensures.within.0 c.in_ok-item.ensures.within.1
+          ∙ c.loop-at.invariant.0,
+      turn_within c.loop-at.at i.length c.args.text.now _ (take_rest c.args.text.now c.loop-at.at) c.loop-at-test.true c.in_ok-item.ensures.within.1,
+    )
+
+pub loop-at-preserved : goal.loop-at-preserved
+loop-at-preserved c =
+    let i = c.in_ok-item.item in
+    let same : c.loop-at.found ≡ c.loop-at.found ++ tokens_of c.loop-at.at i = sym (append-nil c.loop-at.found) ∙ ap (λ (l : List Token). c.loop-at.found ++ l) (sym (no_token c.loop-at.at i c.in_default.is)) in (
+      ap (λ (l : List Token). before l (tokens_from (c.loop-at.at + i.length) 0 (drop (c.loop-at.at + i.length) c.args.text.now))) same
+          ∙ turn c.loop-at.found c.loop-at.at i c.args.text.now _ (take_rest c.args.text.now c.loop-at.at) c.in_ok-item.ensures.value c.in_ok-item.ensures.within.0 c.in_ok-item.ensures.within.1
+          ∙ c.loop-at.invariant.0,
+      turn_within c.loop-at.at i.length c.args.text.now _ (take_rest c.args.text.now c.loop-at.at) c.loop-at-test.true c.in_ok-item.ensures.within.1,
+    )

@@ -1,0 +1,10 @@
+use Rattle.std.proofs.Common.{◌≡◌, ◌-◌, ◌≤◌, drop, length}
+use Rattle.ada_text.specs.Tokens.{before, tokens_from, tokens_in}
+use Rattle.ada_text.proofs.lex.tokens.Given as goal
+
+-- the tokens so far, and then those of what is left, are those of the text
+abbrev pub invariant-loop-at : goal.invariant-loop-at
+invariant-loop-at l = (before l.found (tokens_from l.at 0 (drop l.at l.text)) ≡ tokens_in l.text) × (l.at ≤ length l.text)
+
+abbrev pub decreases-loop-at : goal.decreases-loop-at
+decreases-loop-at l = length l.text - l.at
