@@ -15,3 +15,6 @@ pub use lex::tokens;
 pub use places::line_col;
 pub use reserved::Reserved;
 pub use token::{LexFault, Span, Token, TokenKind, TokenList};
+
+#[cfg(test)]
+mod tests;
