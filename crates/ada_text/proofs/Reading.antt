@@ -1,19 +1,19 @@
 -- The tokens of what is left, after an item.
-use Rattle.std.proofs.Common.{◌≡◌, ℕ, zero, suc, ◌+◌, ◌-◌, ◌<◌, ◌≤◌, Bool, true, false, List, [], ◌∷◌, ◌++◌, length, drop, Option, Some, None, Result, Ok, Err, refl, sym, ap, ◌∙◌, subst, append_assoc, append-nil, length-drop, arith}
+use Rattle.std.proofs.Common.{◌≡◌, ℕ, zero, suc, ◌+◌, ◌-◌, ◌<◌, ◌≤◌, Bool, true, false, List, [], ◌∷◌, ◌++◌, length, drop, Option, Some, None, Result, Ok, Err, refl, sym, ap, ◌∙◌, subst, append_assoc, append-nil, length-drop, All, arith}
 use Rattle.std.specs.Prelude.{nat_eq, nat_lt, IfSome, ◌&&◌, if◌then◌else◌}
 use Rattle.std.specs.List.{starts_with, list_all}
 use Rattle.ada_text.specs.declared.delimiters.Delimiter.{Delimiter}
 use Rattle.ada_text.specs.declared.item.Item.{Item}
 use Rattle.ada_text.specs.declared.token.Token.{Token}
-use Rattle.ada_text.specs.declared.token.Span.{Span}
 use Rattle.ada_text.specs.declared.token.TokenKind.{TokenKind}
 use Rattle.ada_text.specs.declared.token.TokenKind.TheVariants as kind
 use Rattle.std.proofs.lemmas.List.{drop-drop}
+use Rattle.std.proofs.Math.Nat.{le_refl}
 use Rattle.ada_text.specs.declared.token.LexFault.{LexFault}
 use Rattle.std.proofs.lemmas.Bool.{false≢true}
 use Rattle.std.proofs.lemmas.Bool.Decides.{nat_tests}
 use Rattle.ada_text.specs.Delimiters.{mark_among, mark_at, delimiters}
-use Rattle.ada_text.specs.Tokens.{item_at, spelled, tokens_of, before, after_item, tokens_from}
+use Rattle.ada_text.specs.Tokens.{item_at, StandsIn, AreInOrder, spelled, tokens_of, before, after_item, tokens_from}
 
 -- the bytes that are left of an item are passed over
 left-drop : (n at : ℕ) (bs : List ℕ) → n ≤ length bs → tokens_from at n bs ≡ tokens_from (at + n) 0 (drop n bs)
@@ -67,6 +67,24 @@ one_token at i k e = ap (spelled (record { from = at; to = at + i.length })) e
 
 pub no_token : (at : ℕ) (i : Item) → i.kind ≡ None → tokens_of at i ≡ []
 no_token at i e = ap (spelled (record { from = at; to = at + i.length })) e
+
+pub order_more : (from : ℕ) (ts : List Token) (at to : ℕ) → AreInOrder from ts at → at ≤ to → AreInOrder from ts to
+order_more from [] at to h k = omega arith
+order_more from (t ∷ ts) at to h k = (h.0, h.1, order_more t.span.to ts at to h.2 k)
+
+-- a token that begins where the others end
+pub order_push : (from : ℕ) (ts : List Token) (k : TokenKind) (at n : ℕ) → AreInOrder from ts at → 1 ≤ n → AreInOrder from (ts ++ record { kind = k; span = record { from = at; to = at + n } } ∷ []) (at + n)
+order_push from [] k at n h some = (h, omega arith, le_refl (at + n))
+order_push from (t ∷ ts) k at n h some = (h.0, h.1, order_push t.span.to ts k at n h.2 some)
+
+-- the token of an item stands where the item does
+pub stands : (text rest : List ℕ) (at : ℕ) (i : Item) (k : TokenKind) → rest ≡ drop at text → Ok i ≡ item_at at rest → i.kind ≡ Some k → StandsIn text (record { kind = k; span = record { from = at; to = at + i.length } })
+stands text rest at i k same e is =
+    let n : i.length ≡ at + i.length - at = omega arith in
+    ap (item_at at) (sym same) ∙ sym e ∙ (λ j. Ok (record { kind = is j; length = n j }))
+
+pub none_stand : (text : List ℕ) (ts : List Token) → ts ≡ [] → All (StandsIn text) ts
+none_stand text ts e = subst (λ (l : List Token). All (StandsIn text) l) (sym e) (λ k d l. absurd (omega arith))
 
 pub both : (r : Option Item) (n : ℕ) → IfSome r (λ i. 1 ≤ i.length) → IfSome r (λ i. i.length ≤ n) → IfSome r (λ i. (1 ≤ i.length) × (i.length ≤ n))
 both None n h k = tt

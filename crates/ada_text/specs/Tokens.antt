@@ -1,5 +1,5 @@
 -- The tokens of a text.
-use Rattle.std.specs.Prelude.{ℕ, zero, suc, ◌+◌, ◌-◌, List, [], ◌∷◌, ◌++◌, take, drop, slice_index, nat_eq, codes, Option, Some, None, Result, Ok, Err, if◌then◌else◌}
+use Rattle.std.specs.Prelude.{◌≡◌, ◌<◌, ◌≤◌, ℕ, zero, suc, ◌+◌, ◌-◌, List, [], ◌∷◌, ◌++◌, take, drop, slice_index, nat_eq, codes, Option, Some, None, Result, Ok, Err, if◌then◌else◌}
 use Rattle.std.specs.Char.{is_ascii_alphabetic, is_ascii_digit}
 use Rattle.std.specs.List.{starts_with}
 use Rattle.ada_text.specs.declared.item.Item.{Item}
@@ -63,3 +63,12 @@ tokens_from at zero (b ∷ bs) = after_item at (item_at at (b ∷ bs)) (λ left.
 -- the tokens of a text, or its first fault
 unfoldable pub tokens_in : List ℕ → Result (List Token) LexFault
 tokens_in text = tokens_from (skipped text) 0 (drop (skipped text) text)
+
+-- what stands at a token's place is of its kind, up to the end of its span
+abbrev pub StandsIn : List ℕ → Token → Type 0
+StandsIn text t = item_at t.span.from (drop t.span.from text) ≡ Ok (record { kind = Some t.kind; length = t.span.to - t.span.from })
+
+-- spans of a byte or more, one after another between two places
+abbrev pub AreInOrder : ℕ → List Token → ℕ → Type 0
+AreInOrder from [] to = from ≤ to
+AreInOrder from (t ∷ ts) to = (from ≤ t.span.from) × (t.span.from < t.span.to) × AreInOrder t.span.to ts to

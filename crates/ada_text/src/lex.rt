@@ -1,7 +1,7 @@
 //! The tokens of a text.
 
-ghost use Rattle.std.specs.Prelude.{◌≡◌, ◌≢◌, ◌<◌, ◌^◌, Err, Ok, IfErr, IfOk, length};
-ghost use Rattle.ada_text.specs.Tokens.{tokens_in};
+ghost use Rattle.std.specs.Prelude.{◌≡◌, ◌≢◌, ◌<◌, ◌^◌, All, Err, Ok, IfErr, IfOk, length};
+ghost use Rattle.ada_text.specs.Tokens.{AreInOrder, StandsIn, tokens_in};
 
 use crate::bytes::skipped;
 use crate::item::item_at;
@@ -9,10 +9,12 @@ use crate::token::{LexFault, Span, Token, TokenList};
 use std::alloc::Global;
 
 /// The tokens of a text of fewer than 2^32 bytes. `BadByte`, `BadNumber` and `TooWide` are the first fault of the
-/// text, and `Starved` comes where memory was refused.
+/// text, and `Starved` comes where memory was refused. The spans are in order.
 pub fn tokens(alloc: Global, text: &[u8]) -> Result<TokenList, LexFault>
     requires { length text.now < 2 ^ 32 }
     ensures ok { IfOk result (λ found. tokens_in text.now ≡ Ok found) }
+    ensures order { IfOk result (λ found. AreInOrder 0 found (length text.now)) }
+    ensures each { IfOk result (λ found. All (StandsIn text.now) found) }
     ensures fault { IfErr result (λ fault. fault ≢ LexFault.Starved → tokens_in text.now ≡ Err fault) }
 {
     let mut found = TokenList::new(alloc);

@@ -1,4 +1,4 @@
-use Rattle.std.proofs.Common.{◌≡◌, ℕ, ◌<◌, ◌≤◌, ◌-◌, ◌^◌, List, Option, Some, None, arith}
+use Rattle.std.proofs.Common.{◌≡◌, ℕ, ◌<◌, ◌≤◌, List, Option, None, arith}
 use Rattle.std.proofs.lemmas.Grind.{common_steps}
 use Rattle.ada_text.specs.Numbers.{base_of, numeral_value}
 use Rattle.ada_text.proofs.Capped.{below_cap, above_cap}

@@ -1,4 +1,4 @@
-use Rattle.std.proofs.Common.{◌≡◌, ◌-◌, ◌*◌, ◌^◌, ◌≤◌, ap, ◌∙◌, sym, arith}
+use Rattle.std.proofs.Common.{◌≡◌, ◌-◌, ◌*◌, ◌^◌, ap, ◌∙◌, arith}
 use Rattle.std.specs.Prelude.{min}
 use Rattle.ada_text.proofs.Capped.{power_more, power_end}
 use Rattle.ada_text.proofs.number.scaled.Goals as goal
