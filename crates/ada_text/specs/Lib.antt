@@ -1,0 +1,6 @@
+pub mod Bytes
+pub mod Delimiters
+pub mod Numbers
+pub mod Places
+pub mod Tokens
+pub mod Words

@@ -1,0 +1,120 @@
+//! What stands at the front of a text.
+
+ghost use Rattle.std.specs.Prelude.{◌≡◌, ◌≤◌, ◌<◌, IfOk, IfSome, true, length, map, slice_index};
+ghost use Rattle.std.specs.Char.{is_ascii_alphabetic};
+ghost use Rattle.std.specs.Str.{str_eq_ignore_ascii_case};
+ghost use Rattle.ada_text.specs.Delimiters.{mark_among, mark_at};
+ghost use Rattle.ada_text.specs.Tokens.{item_at, word_at};
+ghost use Rattle.ada_text.specs.Words.{word_among, word_kind};
+
+use crate::bytes::{byte_at, is_blank, line_length, numeral_length};
+use crate::delimiters::{DELIMITERS, Delimiter};
+use crate::number::number_at;
+use crate::reserved::{RESERVED_WORDS, Reserved};
+use crate::token::{LexFault, TokenKind};
+
+/// A token, or white space or a comment, which have no kind.
+#[derive(Clone, Copy, Debug)]
+pub struct Item {
+    pub kind: Option<TokenKind>,
+    /// In bytes, at least 1.
+    pub length: usize,
+}
+
+/// Whether two texts are one, without regard to case.
+fn same_word(a: &[u8], b: &[u8]) -> bool
+    ensures { result ≡ str_eq_ignore_ascii_case a.now b.now }
+{
+    a.eq_ignore_ascii_case(b)
+}
+
+/// The reserved word of a table that a text is, in any case.
+fn word_among(mut table: &[(&[u8], Reserved)], text: &[u8]) -> Option<Reserved>
+    ensures { result ≡ word_among (map (λ w. (w.0.now, w.1)) table.entry.now) text.now }
+{
+    while let [entry, rest @ ..] = table {
+        if same_word(entry.0, text) {
+            return Some(entry.1);
+        }
+        table = rest;
+    }
+    None
+}
+
+/// The reserved word that a text is, or an identifier.
+#[tactic(auto, unfolding(crate::specs::Words::word_kind, crate::specs::Words::reserved_words))]
+fn word_kind(text: &[u8]) -> TokenKind
+    ensures { result ≡ word_kind text.now }
+{
+    match word_among(&RESERVED_WORDS, text) {
+        Some(word) => TokenKind::Word(word),
+        None => TokenKind::Id,
+    }
+}
+
+/// The identifier or reserved word at the front.
+#[tactic(auto, unfolding(crate::specs::Tokens::word_at))]
+fn word_at(bytes: &[u8]) -> Item
+    requires { is_ascii_alphabetic (slice_index bytes.now 0) ≡ true }
+    ensures value { result ≡ word_at bytes.now }
+    ensures within { (1 ≤ result.length) × (result.length ≤ length bytes.now) }
+{
+    let length = numeral_length(36, bytes);
+    Item {
+        kind: Some(word_kind(&bytes[..length])),
+        length,
+    }
+}
+
+/// The first delimiter of a table whose text stands at the front.
+fn mark_among(mut table: &[(&[u8], Delimiter)], bytes: &[u8]) -> Option<Item>
+    ensures value { result ≡ mark_among (map (λ m. (m.0.now, m.1)) table.entry.now) bytes.now }
+    ensures within { IfSome result (λ i. i.length ≤ length bytes.now) }
+{
+    while let [entry, rest @ ..] = table {
+        if bytes.starts_with(entry.0) {
+            return Some(Item {
+                kind: Some(TokenKind::Mark(entry.1)),
+                length: entry.0.len(),
+            });
+        }
+        table = rest;
+    }
+    None
+}
+
+/// The delimiter at the front.
+#[tactic(auto, unfolding(crate::specs::Delimiters::mark_at, crate::specs::Delimiters::delimiters))]
+fn mark_at(bytes: &[u8]) -> Option<Item>
+    ensures value { result ≡ mark_at bytes.now }
+    ensures within { IfSome result (λ i. (1 ≤ i.length) × (i.length ≤ length bytes.now)) }
+{
+    mark_among(&DELIMITERS, bytes)
+}
+
+/// What stands at the front, which is the place `at` of the text.
+#[tactic(auto, unfolding(crate::specs::Tokens::item_at))]
+pub fn item_at(at: u32, bytes: &[u8]) -> Result<Item, LexFault>
+    requires { 0 < length bytes.now }
+    ensures value { result ≡ item_at at bytes.now }
+    ensures within { IfOk result (λ i. (1 ≤ i.length) × (i.length ≤ length bytes.now)) }
+{
+    let byte = byte_at(bytes, 0);
+    if is_blank(byte) {
+        Ok(Item {
+            kind: None,
+            length: 1,
+        })
+    } else if bytes.starts_with(b"--") {
+        Ok(Item {
+            kind: None,
+            length: 2 + line_length(&bytes[2..]),
+        })
+    } else if byte.is_ascii_alphabetic() {
+        Ok(word_at(bytes))
+    } else if byte.is_ascii_digit() {
+        number_at(at, bytes)
+    } else {
+        mark_at(bytes).ok_or(LexFault::BadByte(at))
+    }
+}
