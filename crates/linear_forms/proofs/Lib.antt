@@ -1,0 +1,13 @@
+pub mod Integers
+pub mod Sums
+pub mod Values
+pub mod Terms
+pub mod Tightening
+pub mod Ordering
+pub mod Narrow
+pub mod Placing
+pub mod Divisors
+pub mod Dividing
+pub mod Raising
+pub mod Gathering
+pub mod Combining

@@ -1,0 +1,18 @@
+//! Linear forms: a constant plus variables with coefficients, which is said to be at least 0.
+#![tactic(auto)]
+
+mod build;
+mod fault;
+mod form;
+mod gather;
+mod gcd;
+mod laws;
+mod numbers;
+mod place;
+#[cfg(test)]
+mod tests;
+
+pub use build::{add_scaled, form_of, tighten};
+pub use fault::FormFault;
+pub use form::{LinearForm, Part};
+pub use laws::{laws_of_forms, laws_of_order, laws_of_tightening};

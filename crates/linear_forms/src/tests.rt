@@ -1,0 +1,142 @@
+//! Forms worked out by hand, and numbers at the edges of 128 bits.
+
+use crate::{FormFault, LinearForm, Part, add_scaled, form_of, tighten};
+use logic_terms::{Starved, Term};
+use sqlite_items::{Boxed, Items};
+use std::alloc::Global;
+use std::test::Fail;
+use term_text::text_of;
+
+type Made = Result<Term, Starved>;
+
+fn add(alloc: Global, a: Term, b: Term) -> Made {
+    Ok(Term::Add(Boxed::new(alloc, a)?, Boxed::new(alloc, b)?))
+}
+
+fn sub(alloc: Global, a: Term, b: Term) -> Made {
+    Ok(Term::Sub(Boxed::new(alloc, a)?, Boxed::new(alloc, b)?))
+}
+
+fn mul(alloc: Global, a: Term, b: Term) -> Made {
+    Ok(Term::Mul(Boxed::new(alloc, a)?, Boxed::new(alloc, b)?))
+}
+
+/// Whether a part is this coefficient times the variable of this text.
+fn is_part(alloc: Global, part: &Part, coefficient: i128, text: &[u8]) -> bool {
+    match text_of(alloc, &part.variable) {
+        Ok(found) => part.coefficient == coefficient && found.as_slice() == text,
+        Err(_) => false,
+    }
+}
+
+/// Whether a form is this constant plus these parts.
+fn shows(alloc: Global, f: &LinearForm, constant: i128, want: &[(i128, &[u8])]) -> bool {
+    let parts = f.parts.as_slice();
+    if f.constant != constant || parts.len() != want.len() {
+        return false;
+    }
+    for (part, (coefficient, text)) in parts.iter().zip(want) {
+        if !is_part(alloc, part, *coefficient, text) {
+            return false;
+        }
+    }
+    true
+}
+
+/// Whether the form of a term is this constant plus these parts.
+fn forms(alloc: Global, t: &Term, constant: i128, want: &[(i128, &[u8])]) -> bool {
+    match form_of(alloc, t) {
+        Ok(f) => shows(alloc, &f, constant, want),
+        Err(_) => false,
+    }
+}
+
+/// Whether a term has no form, for a number that leaves 128 bits.
+fn is_wide(alloc: Global, t: &Term) -> bool {
+    match form_of(alloc, t) {
+        Ok(_) => false,
+        Err(fault) => fault == FormFault::Wide,
+    }
+}
+
+#[test]
+fn sums_are_gathered(rt: HostRuntime) -> Result<(), Fail> {
+    let alloc = rt.alloc();
+    let tripled = mul(alloc, Term::Num(3), Term::Sym(0))?;
+    let more = add(alloc, Term::Sym(0), Term::Num(5))?;
+    assert!(rt; forms(alloc, &sub(alloc, tripled, more)?, -5, &[(2, b"s0")]));
+    assert!(rt; forms(alloc, &sub(alloc, Term::Sym(7), Term::Sym(7))?, 0, &[]));
+    let both = add(alloc, Term::Sym(2), Term::Sym(10))?;
+    assert!(rt; forms(alloc, &both, 0, &[(1, b"s10"), (1, b"s2")]));
+    Ok(())
+}
+
+#[test]
+fn products_are_multiplied_out(rt: HostRuntime) -> Result<(), Fail> {
+    let alloc = rt.alloc();
+    let above = add(alloc, Term::Sym(0), Term::Num(1))?;
+    let below = sub(alloc, Term::Sym(0), Term::Num(1))?;
+    assert!(rt; forms(alloc, &mul(alloc, above, below)?, -1, &[(1, b"(* s0 s0)")]));
+    let back = mul(alloc, Term::Sym(1), Term::Sym(0))?;
+    assert!(rt; forms(alloc, &back, 0, &[(1, b"(* s0 s1)")]));
+    let rest = Term::Mod(Boxed::new(alloc, Term::Sym(0))?, Boxed::new(alloc, Term::Num(2))?);
+    assert!(rt; forms(alloc, &mul(alloc, rest, Term::Num(-4))?, 0, &[(-4, b"(mod s0 2)")]));
+    Ok(())
+}
+
+const GREATEST: i128 = 170_141_183_460_469_231_731_687_303_715_884_105_727;
+const LEAST: i128 = -170_141_183_460_469_231_731_687_303_715_884_105_728;
+
+#[test]
+fn numbers_at_the_edges(rt: HostRuntime) -> Result<(), Fail> {
+    let alloc = rt.alloc();
+    assert!(rt; forms(alloc, &add(alloc, Term::Num(GREATEST), Term::Num(0))?, GREATEST, &[]));
+    assert!(rt; is_wide(alloc, &add(alloc, Term::Num(GREATEST), Term::Num(1))?));
+    let least = mul(alloc, Term::Num(LEAST), Term::Sym(0))?;
+    assert!(rt; forms(alloc, &least, 0, &[(LEAST, b"s0")]));
+    assert!(rt; is_wide(alloc, &sub(alloc, Term::Num(0), least)?));
+    let once = mul(alloc, Term::Num(GREATEST), Term::Sym(0))?;
+    assert!(rt; is_wide(alloc, &add(alloc, once, Term::Sym(0))?));
+    Ok(())
+}
+
+/// 4 s0 + 6 s1 and a constant.
+fn even_parts(alloc: Global, constant: i128) -> Result<LinearForm, Starved> {
+    let mut parts = Items::new(alloc);
+    parts.push(Part {
+        coefficient: 4,
+        variable: Term::Sym(0),
+    })?;
+    parts.push(Part {
+        coefficient: 6,
+        variable: Term::Sym(1),
+    })?;
+    Ok(LinearForm { constant, parts })
+}
+
+#[test]
+fn tightening_rounds_down(rt: HostRuntime) -> Result<(), Fail> {
+    let alloc = rt.alloc();
+    for (constant, want) in [(7, 3), (-7, -4), (8, 4), (-8, -4), (0, 0)] {
+        let f = tighten(alloc, &even_parts(alloc, constant)?)?;
+        assert!(rt; shows(alloc, &f, want, &[(2, b"s0"), (3, b"s1")]), "at {constant}");
+    }
+    let alone = LinearForm {
+        constant: -7,
+        parts: Items::new(alloc),
+    };
+    assert!(rt; shows(alloc, &tighten(alloc, &alone)?, -7, &[]));
+    Ok(())
+}
+
+#[test]
+fn scaled_sums(rt: HostRuntime) -> Result<(), Fail> {
+    let alloc = rt.alloc();
+    let f = even_parts(alloc, 1)?;
+    let g = even_parts(alloc, -1)?;
+    let sum = add_scaled(alloc, &f, 3, &g, -1)?;
+    assert!(rt; shows(alloc, &sum, 4, &[(8, b"s0"), (12, b"s1")]));
+    let none = add_scaled(alloc, &f, 2, &g, -2)?;
+    assert!(rt; shows(alloc, &none, 4, &[]));
+    Ok(())
+}

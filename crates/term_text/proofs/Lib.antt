@@ -1,0 +1,5 @@
+pub mod Words
+pub mod Numerals
+pub mod Operators
+pub mod Apart
+pub mod TextOrder
