@@ -33,15 +33,15 @@ gathering_more more old now new i m h e f g k w =
     record {
       sums = w.sums ∙ ap (λ (x : List Monomial). gathered x now) d ∙ ap (λ (x : List Monomial). gathered (drop (i + 1) more) x) (sym g);
       fit = w.fit ∙ ap (λ (x : List Monomial). gathering_fits x now) d
-        ∙ fits_on (fits m.coefficient) (fits (raised m.coefficient m.variable now)) _ f k
-        ∙ ap (λ (x : List Monomial). gathering_fits (drop (i + 1) more) x) (sym g)
+          ∙ fits_on (fits m.coefficient) (fits (raised m.coefficient m.variable now)) _ f k
+          ∙ ap (λ (x : List Monomial). gathering_fits (drop (i + 1) more) x) (sym g);
     }
 
 pub gathering_wide : (more old now : List Monomial) (i : ℕ) (m : Monomial) → i < length more → at more i ≡ m → fits m.coefficient ≡ false → Gathering more old i now → gathering_fits more old ≡ false
 gathering_wide more old now i m h e f w =
     let d = next more i m.coefficient m h e in
     w.fit ∙ ap (λ (x : List Monomial). gathering_fits x now) d
-      ∙ ap (λ (b : Bool). b && (fits (raised m.coefficient m.variable now) && gathering_fits (drop (i + 1) more) (with_monomial m.coefficient m.variable now))) f
+    ∙ ap (λ (b : Bool). b && (fits (raised m.coefficient m.variable now) && gathering_fits (drop (i + 1) more) (with_monomial m.coefficient m.variable now))) f
 
 pub first_fails : (a b r : Bool) → b ≡ false → (a && (b && r)) ≡ false
 first_fails true b r e = ap (λ (x : Bool). x && r) e
@@ -51,7 +51,7 @@ pub gathering_raised_wide : (more old now : List Monomial) (i : ℕ) (m : Monomi
 gathering_raised_wide more old now i m h e f w =
     let d = next more i m.coefficient m h e in
     w.fit ∙ ap (λ (x : List Monomial). gathering_fits x now) d
-      ∙ first_fails (fits m.coefficient) (fits (raised m.coefficient m.variable now)) _ f
+    ∙ first_fails (fits m.coefficient) (fits (raised m.coefficient m.variable now)) _ f
 
 pub fault_along : (a b : Bool) (e : FormFault) → (a ≡ false → b ≡ false) → IsFault a e → IsFault b e
 fault_along a b Wide h f = h f
@@ -75,12 +75,12 @@ gathering_end more old now i h w =
 pub at_scaled : (by : ℤ) (ps : List Part) (i : ℕ) (p : Part) → i < length ps → p ≡ get_or ps i p → at (scaled by (parts ps)) i ≡ monomial (by *ℤ p.coefficient) (term p.variable)
 at_scaled by ps i p h e =
     get_or-map (λ (m : Monomial). monomial (by *ℤ m.coefficient) m.variable) (parts ps) i nothing nothing (rw (as_many ps) h)
-      ∙ ap (λ (m : Monomial). monomial (by *ℤ m.coefficient) m.variable) (at_part ps i p h e)
+    ∙ ap (λ (m : Monomial). monomial (by *ℤ m.coefficient) m.variable) (at_part ps i p h e)
 
 pub at_multiples : (u : Monomial) (ps : List Part) (i : ℕ) (p : Part) → i < length ps → p ≡ get_or ps i p → at (multiples u (parts ps)) i ≡ monomial (u.coefficient *ℤ p.coefficient) (product_variable u.variable (term p.variable))
 at_multiples u ps i p h e =
     get_or-map (λ (m : Monomial). monomial (u.coefficient *ℤ m.coefficient) (product_variable u.variable m.variable)) (parts ps) i nothing nothing (rw (as_many ps) h)
-      ∙ ap (λ (m : Monomial). monomial (u.coefficient *ℤ m.coefficient) (product_variable u.variable m.variable)) (at_part ps i p h e)
+    ∙ ap (λ (m : Monomial). monomial (u.coefficient *ℤ m.coefficient) (product_variable u.variable m.variable)) (at_part ps i p h e)
 
 pub as_many_scaled : (by : ℤ) (ps : List Part) → length (scaled by (parts ps)) ≡ length ps
 as_many_scaled by ps = length-map (parts ps) (λ (m : Monomial). monomial (by *ℤ m.coefficient) m.variable) ∙ as_many ps
@@ -103,7 +103,7 @@ pub gathering_fits-append : (xs ys ms : List Monomial) → gathering_fits (xs ++
 gathering_fits-append [] ys ms = refl
 gathering_fits-append (x ∷ xs) ys ms =
     ap (λ (b : Bool). fits x.coefficient && (fits (raised x.coefficient x.variable ms) && b)) (gathering_fits-append xs ys (with_monomial x.coefficient x.variable ms))
-      ∙ and_over (fits x.coefficient) (fits (raised x.coefficient x.variable ms)) _ _
+    ∙ and_over (fits x.coefficient) (fits (raised x.coefficient x.variable ms)) _ _
 
 -- the products of the factors before the i-th are added to `old`, which gives `now`
 pub record Multiplying (us ns old : List Monomial) (i : ℕ) (now : List Monomial) : Type 0 where
@@ -121,25 +121,25 @@ multiplying_more ps ns old now new i p h e f g w =
     let d = next_products ns ps i p h e in
     record {
       sums = w.sums ∙ ap (λ (x : List Monomial). gathered x now) d
-        ∙ gathered-append (multiples (part p) ns) (products (drop (i + 1) (parts ps)) ns) now
-        ∙ ap (λ (x : List Monomial). gathered (products (drop (i + 1) (parts ps)) ns) x) (sym f);
+          ∙ gathered-append (multiples (part p) ns) (products (drop (i + 1) (parts ps)) ns) now
+          ∙ ap (λ (x : List Monomial). gathered (products (drop (i + 1) (parts ps)) ns) x) (sym f);
       fit = w.fit ∙ ap (λ (x : List Monomial). gathering_fits x now) d
-        ∙ gathering_fits-append (multiples (part p) ns) (products (drop (i + 1) (parts ps)) ns) now
-        ∙ ap (λ (b : Bool). b && gathering_fits (products (drop (i + 1) (parts ps)) ns) (gathered (multiples (part p) ns) now)) g
-        ∙ ap (λ (x : List Monomial). gathering_fits (products (drop (i + 1) (parts ps)) ns) x) (sym f)
+          ∙ gathering_fits-append (multiples (part p) ns) (products (drop (i + 1) (parts ps)) ns) now
+          ∙ ap (λ (b : Bool). b && gathering_fits (products (drop (i + 1) (parts ps)) ns) (gathered (multiples (part p) ns) now)) g
+          ∙ ap (λ (x : List Monomial). gathering_fits (products (drop (i + 1) (parts ps)) ns) x) (sym f);
     }
 
 pub multiplying_fault : (ps : List Part) (ns old now : List Monomial) (i : ℕ) (p : Part) (x : FormFault) → i < length ps → p ≡ get_or ps i p → IsFault (gathering_fits (multiples (part p) ns) now) x → Multiplying (parts ps) ns old i now → IsFault (gathering_fits (products (parts ps) ns) old) x
 multiplying_fault ps ns old now i p x h e f w =
     fault_along (gathering_fits (multiples (part p) ns) now) (gathering_fits (products (parts ps) ns) old) x
-      (λ z. w.fit ∙ ap (λ (y : List Monomial). gathering_fits y now) (next_products ns ps i p h e)
-        ∙ gathering_fits-append (multiples (part p) ns) (products (drop (i + 1) (parts ps)) ns) now
-        ∙ ap (λ (b : Bool). b && gathering_fits (products (drop (i + 1) (parts ps)) ns) (gathered (multiples (part p) ns) now)) z)
-      f
+    (λ z. w.fit ∙ ap (λ (y : List Monomial). gathering_fits y now) (next_products ns ps i p h e)
+    ∙ gathering_fits-append (multiples (part p) ns) (products (drop (i + 1) (parts ps)) ns) now
+    ∙ ap (λ (b : Bool). b && gathering_fits (products (drop (i + 1) (parts ps)) ns) (gathered (multiples (part p) ns) now)) z)
+    f
 
 pub multiplying_end : (ps : List Part) (ns old now : List Monomial) (i : ℕ) → length ps ≤ i → Multiplying (parts ps) ns old i now → (now ≡ gathered (products (parts ps) ns) old) × (gathering_fits (products (parts ps) ns) old ≡ true)
 multiplying_end ps ns old now i h w =
-    let d : drop i (parts ps) ≡ [] = drop_of_length-le (parts ps) (rw (as_many ps) h) in
-    ( sym (w.sums ∙ ap (λ (x : List Monomial). gathered (products x ns) now) d)
-    , w.fit ∙ ap (λ (x : List Monomial). gathering_fits (products x ns) now) d
+    let d : drop i (parts ps) ≡ [] = drop_of_length-le (parts ps) (rw (as_many ps) h) in (
+      sym (w.sums ∙ ap (λ (x : List Monomial). gathered (products x ns) now) d),
+      w.fit ∙ ap (λ (x : List Monomial). gathering_fits (products x ns) now) d,
     )

@@ -79,18 +79,36 @@ fn products_are_multiplied_out(rt: HostRuntime) -> Result<(), Fail> {
     assert!(rt; forms(alloc, &mul(alloc, above, below)?, -1, &[(1, b"(* s0 s0)")]));
     let back = mul(alloc, Term::Sym(1), Term::Sym(0))?;
     assert!(rt; forms(alloc, &back, 0, &[(1, b"(* s0 s1)")]));
-    let rest = Term::Mod(Boxed::new(alloc, Term::Sym(0))?, Boxed::new(alloc, Term::Num(2))?);
-    assert!(rt; forms(alloc, &mul(alloc, rest, Term::Num(-4))?, 0, &[(-4, b"(mod s0 2)")]));
+    let rest = Term::Mod(
+        Boxed::new(alloc, Term::Sym(0))?,
+        Boxed::new(alloc, Term::Num(2))?,
+    );
+    assert!(rt;
+        forms(
+            alloc,
+            &mul(alloc, rest, Term::Num(-4))?,
+            0,
+            &[(-4, b"(mod s0 2)")]
+        )
+    );
     Ok(())
 }
 
 const GREATEST: i128 = 170_141_183_460_469_231_731_687_303_715_884_105_727;
+
 const LEAST: i128 = -170_141_183_460_469_231_731_687_303_715_884_105_728;
 
 #[test]
 fn numbers_at_the_edges(rt: HostRuntime) -> Result<(), Fail> {
     let alloc = rt.alloc();
-    assert!(rt; forms(alloc, &add(alloc, Term::Num(GREATEST), Term::Num(0))?, GREATEST, &[]));
+    assert!(rt;
+        forms(
+            alloc,
+            &add(alloc, Term::Num(GREATEST), Term::Num(0))?,
+            GREATEST,
+            &[]
+        )
+    );
     assert!(rt; is_wide(alloc, &add(alloc, Term::Num(GREATEST), Term::Num(1))?));
     let least = mul(alloc, Term::Num(LEAST), Term::Sym(0))?;
     assert!(rt; forms(alloc, &least, 0, &[(LEAST, b"s0")]));
@@ -119,7 +137,10 @@ fn tightening_rounds_down(rt: HostRuntime) -> Result<(), Fail> {
     let alloc = rt.alloc();
     for (constant, want) in [(7, 3), (-7, -4), (8, 4), (-8, -4), (0, 0)] {
         let f = tighten(alloc, &even_parts(alloc, constant)?)?;
-        assert!(rt; shows(alloc, &f, want, &[(2, b"s0"), (3, b"s1")]), "at {constant}");
+        assert!(rt;
+            shows(alloc, &f, want, &[(2, b"s0"), (3, b"s1")]),
+            "at {constant}"
+        );
     }
     let alone = LinearForm {
         constant: -7,

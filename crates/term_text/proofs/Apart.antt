@@ -199,7 +199,7 @@ mutual
   lists_apart (node a ns) no_nodes xs ys e = absurd (let h : 32 ≡ 41 = same_head 32 41 _ _ e in omega arith)
   lists_apart (node a ns) (node b ms) xs ys e =
       let r = nodes_apart a b (spaced_text ns ++ (41 ∷ xs)) (spaced_text ms ++ (41 ∷ ys)) (spaced_ends ns xs) (spaced_ends ms ys)
-        (same_tail 32 32 _ _ (sym (next_part (node_text a) (spaced_text ns) xs) ∙ e ∙ next_part (node_text b) (spaced_text ms) ys)) in
+      (same_tail 32 32 _ _ (sym (next_part (node_text a) (spaced_text ns) xs) ∙ e ∙ next_part (node_text b) (spaced_text ms) ys)) in
       let s = lists_apart ns ms xs ys r.1 in
       (more_nodes a b ns ms r.0 s.0, s.1)
 

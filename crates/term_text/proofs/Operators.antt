@@ -161,6 +161,6 @@ pub operators_same : (o q : Operator) (xs ys : List ℕ) → Ends xs → Ends ys
 operators_same o q xs ys f g e =
     let s = split (word o) (word q) _ _ (spelled o).a_word (spelled q).a_word (tail_ends (numbered (word o)) (index o) xs f) (tail_ends (numbered (word q)) (index q) ys g) (sym (spread o xs) ∙ e ∙ spread q ys) in
     let n = numbers_same (numbered (word o)) (index o) (index q) xs ys f g
-      (s.1 ∙ ap (λ (w : List ℕ). tail_by (numbered w) (index q) ++ ys) (sym s.0))
-      (spelled o).no_number (λ z. (spelled q).no_number (ap numbered (sym s.0) ∙ z)) in
+    (s.1 ∙ ap (λ (w : List ℕ). tail_by (numbered w) (index q) ++ ys) (sym s.0))
+    (spelled o).no_number (λ z. (spelled q).no_number (ap numbered (sym s.0) ∙ z)) in
     (sym (back o) ∙ ap₂ (λ (k : ℕ) (w : List ℕ). found_in (operators k) w) n.0 s.0 ∙ back q, n.1)

@@ -38,7 +38,13 @@ fn texts_of_leaves(rt: HostRuntime) -> Result<(), Fail> {
     assert!(rt; reads(alloc, &Term::Num(0), b"0"));
     assert!(rt; reads(alloc, &Term::Num(-10), b"-10"));
     let least = -170_141_183_460_469_231_731_687_303_715_884_105_728;
-    assert!(rt; reads(alloc, &Term::Num(least), b"-170141183460469231731687303715884105728"));
+    assert!(rt;
+        reads(
+            alloc,
+            &Term::Num(least),
+            b"-170141183460469231731687303715884105728"
+        )
+    );
     assert!(rt; reads(alloc, &Term::Sym(0), b"s0"));
     assert!(rt; reads(alloc, &Term::Bound(4_294_967_295), b"b4294967295"));
     Ok(())
@@ -50,11 +56,7 @@ fn choice(alloc: Global) -> Result<Term, Starved> {
     let not = Formula::Not(formula(alloc, at_most)?);
     let both = Formula::And(formula(alloc, Formula::True)?, formula(alloc, not)?);
     let other = Term::Mod(sym(alloc, 1)?, num(alloc, 7)?);
-    Ok(Term::Ite(
-        formula(alloc, both)?,
-        num(alloc, -1)?,
-        term(alloc, other)?,
-    ))
+    Ok(Term::Ite(formula(alloc, both)?, num(alloc, -1)?, term(alloc, other)?))
 }
 
 /// `(sel (sto (fill 1 9 0) s0 5) (fst s1))`
@@ -83,20 +85,40 @@ fn changed(alloc: Global) -> Result<Term, Starved> {
     fields.push(Term::Sym(0))?;
     fields.push(Term::Call(3, none))?;
     let field = Term::Fld(10, sym(alloc, 1)?);
-    Ok(Term::Upd(
-        2,
-        term(alloc, Term::Rec(fields))?,
-        term(alloc, field)?,
-    ))
+    Ok(Term::Upd(2, term(alloc, Term::Rec(fields))?, term(alloc, field)?))
 }
 
 #[test]
 fn texts_of_parts(rt: HostRuntime) -> Result<(), Fail> {
     let alloc = rt.alloc();
-    assert!(rt; reads(alloc, &choice(alloc)?, b"(ite (and T (not (<= s0 b0))) -1 (mod s1 7))"));
-    assert!(rt; reads(alloc, &item(alloc)?, b"(sel (sto (fill 1 9 0) s0 5) (fst s1))"));
-    assert!(rt; reads(alloc, &quantified(alloc)?, b"(bit (all 1 (lst s0) (any 0 b0 (iff (tru s1) F))))"));
-    assert!(rt; reads(alloc, &changed(alloc)?, b"(upd 2 (rec s0 (call 3)) (fld 10 s1))"));
+    assert!(rt;
+        reads(
+            alloc,
+            &choice(alloc)?,
+            b"(ite (and T (not (<= s0 b0))) -1 (mod s1 7))"
+        )
+    );
+    assert!(rt;
+        reads(
+            alloc,
+            &item(alloc)?,
+            b"(sel (sto (fill 1 9 0) s0 5) (fst s1))"
+        )
+    );
+    assert!(rt;
+        reads(
+            alloc,
+            &quantified(alloc)?,
+            b"(bit (all 1 (lst s0) (any 0 b0 (iff (tru s1) F))))"
+        )
+    );
+    assert!(rt;
+        reads(
+            alloc,
+            &changed(alloc)?,
+            b"(upd 2 (rec s0 (call 3)) (fld 10 s1))"
+        )
+    );
     Ok(())
 }
 

@@ -23,7 +23,7 @@ returns-in_ok-insert-in-Before c =
     let w : IsPlace v (parts ps) (Before c.in-Before.at) = subst Q c.in-Before.is (subst P c.as_slice.ensures.value c.in_ok-at.ensures) in
     let f : FitsSigned w128 c.args.coefficient = search rules in
     let some : c.args.coefficient ≢ pos 0 = λ e. c.if-coefficient-ne0.true (ap (of_z w128) e) in
-    let i = c.in_ok-insert-in-Before.ensures.items in
-    ( ap parts i ∙ put_in ps c.in-Before.at _ c.args.coefficient v (ap (λ (x : ℤ). monomial x v) (to_z-of_z w128 c.args.coefficient f)) some ∙ sym (w.1 c.args.coefficient)
-    , ap fits (w.2 c.args.coefficient) ∙ narrow_fits c.args.coefficient f
+    let i = c.in_ok-insert-in-Before.ensures.items in (
+      ap parts i ∙ put_in ps c.in-Before.at _ c.args.coefficient v (ap (λ (x : ℤ). monomial x v) (to_z-of_z w128 c.args.coefficient f)) some ∙ sym (w.1 c.args.coefficient),
+      ap fits (w.2 c.args.coefficient) ∙ narrow_fits c.args.coefficient f,
     )
