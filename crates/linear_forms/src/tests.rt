@@ -43,79 +43,118 @@ fn shows(alloc: Global, f: &LinearForm, constant: i128, want: &[(i128, &[u8])]) 
     true
 }
 
-/// Whether the form of a term is this constant plus these parts.
-fn forms(alloc: Global, t: &Term, constant: i128, want: &[(i128, &[u8])]) -> bool {
-    match form_of(alloc, t) {
+/// Whether the form of a term that was made is this constant plus these parts.
+fn forms(alloc: Global, made: Made, constant: i128, want: &[(i128, &[u8])]) -> bool {
+    let Ok(t) = made else {
+        return false;
+    };
+    match form_of(alloc, &t) {
         Ok(f) => shows(alloc, &f, constant, want),
         Err(_) => false,
     }
 }
 
-/// Whether a term has no form, for a number that leaves 128 bits.
-fn is_wide(alloc: Global, t: &Term) -> bool {
-    match form_of(alloc, t) {
+/// Whether a term that was made has no form, for a number that leaves 128 bits.
+fn is_wide(alloc: Global, made: Made) -> bool {
+    let Ok(t) = made else {
+        return false;
+    };
+    match form_of(alloc, &t) {
         Ok(_) => false,
         Err(fault) => fault == FormFault::Wide,
     }
 }
 
-#[test]
-fn sums_are_gathered(rt: HostRuntime) -> Result<(), Fail> {
-    let alloc = rt.alloc();
+/// `(- (* 3 s0) (+ s0 5))`
+fn difference(alloc: Global) -> Made {
     let tripled = mul(alloc, Term::Num(3), Term::Sym(0))?;
     let more = add(alloc, Term::Sym(0), Term::Num(5))?;
-    assert!(rt; forms(alloc, &sub(alloc, tripled, more)?, -5, &[(2, b"s0")]));
-    assert!(rt; forms(alloc, &sub(alloc, Term::Sym(7), Term::Sym(7))?, 0, &[]));
-    let both = add(alloc, Term::Sym(2), Term::Sym(10))?;
-    assert!(rt; forms(alloc, &both, 0, &[(1, b"s10"), (1, b"s2")]));
-    Ok(())
+    sub(alloc, tripled, more)
+}
+
+/// `(* (+ s0 1) (- s0 1))`
+fn product_of_sums(alloc: Global) -> Made {
+    let above = add(alloc, Term::Sym(0), Term::Num(1))?;
+    let below = sub(alloc, Term::Sym(0), Term::Num(1))?;
+    mul(alloc, above, below)
+}
+
+/// `(* (mod s0 2) -4)`
+fn scaled_modulus(alloc: Global) -> Made {
+    let s0 = Boxed::new(alloc, Term::Sym(0))?;
+    let rest = Term::Mod(s0, Boxed::new(alloc, Term::Num(2))?);
+    mul(alloc, rest, Term::Num(-4))
 }
 
 #[test]
-fn products_are_multiplied_out(rt: HostRuntime) -> Result<(), Fail> {
+fn sums_are_gathered(rt: HostRuntime) {
     let alloc = rt.alloc();
-    let above = add(alloc, Term::Sym(0), Term::Num(1))?;
-    let below = sub(alloc, Term::Sym(0), Term::Num(1))?;
-    assert!(rt; forms(alloc, &mul(alloc, above, below)?, -1, &[(1, b"(* s0 s0)")]));
-    let back = mul(alloc, Term::Sym(1), Term::Sym(0))?;
-    assert!(rt; forms(alloc, &back, 0, &[(1, b"(* s0 s1)")]));
-    let rest = Term::Mod(
-        Boxed::new(alloc, Term::Sym(0))?,
-        Boxed::new(alloc, Term::Num(2))?,
-    );
+    assert!(rt; forms(alloc, difference(alloc), -5, &[(2, b"s0")]));
+    assert!(rt; forms(alloc, sub(alloc, Term::Sym(7), Term::Sym(7)), 0, &[]));
     assert!(rt;
         forms(
             alloc,
-            &mul(alloc, rest, Term::Num(-4))?,
+            add(alloc, Term::Sym(2), Term::Sym(10)),
             0,
-            &[(-4, b"(mod s0 2)")]
+            &[(1, b"s10"), (1, b"s2")]
         )
     );
-    Ok(())
+}
+
+#[test]
+fn products_are_multiplied_out(rt: HostRuntime) {
+    let alloc = rt.alloc();
+    assert!(rt; forms(alloc, product_of_sums(alloc), -1, &[(1, b"(* s0 s0)")]));
+    assert!(rt;
+        forms(
+            alloc,
+            mul(alloc, Term::Sym(1), Term::Sym(0)),
+            0,
+            &[(1, b"(* s0 s1)")]
+        )
+    );
+    assert!(rt; forms(alloc, scaled_modulus(alloc), 0, &[(-4, b"(mod s0 2)")]));
 }
 
 const GREATEST: i128 = 170_141_183_460_469_231_731_687_303_715_884_105_727;
 
 const LEAST: i128 = -170_141_183_460_469_231_731_687_303_715_884_105_728;
 
+/// `(- 0 (* n s0))`
+fn negated_multiple(alloc: Global, n: i128) -> Made {
+    let multiple = mul(alloc, Term::Num(n), Term::Sym(0))?;
+    sub(alloc, Term::Num(0), multiple)
+}
+
 #[test]
-fn numbers_at_the_edges(rt: HostRuntime) -> Result<(), Fail> {
+fn numbers_at_the_edges(rt: HostRuntime) {
     let alloc = rt.alloc();
     assert!(rt;
         forms(
             alloc,
-            &add(alloc, Term::Num(GREATEST), Term::Num(0))?,
+            add(alloc, Term::Num(GREATEST), Term::Num(0)),
             GREATEST,
             &[]
         )
     );
-    assert!(rt; is_wide(alloc, &add(alloc, Term::Num(GREATEST), Term::Num(1))?));
-    let least = mul(alloc, Term::Num(LEAST), Term::Sym(0))?;
-    assert!(rt; forms(alloc, &least, 0, &[(LEAST, b"s0")]));
-    assert!(rt; is_wide(alloc, &sub(alloc, Term::Num(0), least)?));
-    let once = mul(alloc, Term::Num(GREATEST), Term::Sym(0))?;
-    assert!(rt; is_wide(alloc, &add(alloc, once, Term::Sym(0))?));
-    Ok(())
+    assert!(rt; is_wide(alloc, add(alloc, Term::Num(GREATEST), Term::Num(1))));
+    assert!(rt;
+        forms(
+            alloc,
+            mul(alloc, Term::Num(LEAST), Term::Sym(0)),
+            0,
+            &[(LEAST, b"s0")]
+        )
+    );
+    assert!(rt;
+        forms(
+            alloc,
+            negated_multiple(alloc, GREATEST),
+            0,
+            &[(LEAST + 1, b"s0")]
+        )
+    );
+    assert!(rt; is_wide(alloc, negated_multiple(alloc, LEAST)));
 }
 
 /// 4 s0 + 6 s1 and a constant.

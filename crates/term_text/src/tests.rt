@@ -50,13 +50,27 @@ fn texts_of_leaves(rt: HostRuntime) -> Result<(), Fail> {
     Ok(())
 }
 
-/// `(ite (and T (not (<= s0 b0))) -1 (mod s1 7))`
-fn choice(alloc: Global) -> Result<Term, Starved> {
+/// `(not (<= s0 b0))`
+fn exceeds(alloc: Global) -> Made<Formula> {
     let at_most = Formula::Le(sym(alloc, 0)?, term(alloc, Term::Bound(0))?);
-    let not = Formula::Not(formula(alloc, at_most)?);
-    let both = Formula::And(formula(alloc, Formula::True)?, formula(alloc, not)?);
-    let other = Term::Mod(sym(alloc, 1)?, num(alloc, 7)?);
-    Ok(Term::Ite(formula(alloc, both)?, num(alloc, -1)?, term(alloc, other)?))
+    formula(alloc, Formula::Not(formula(alloc, at_most)?))
+}
+
+/// `(and (not (<= s0 b0)) T)`
+fn conjunction(alloc: Global) -> Made<Formula> {
+    let first = exceeds(alloc)?;
+    formula(alloc, Formula::And(first, formula(alloc, Formula::True)?))
+}
+
+/// `(mod s1 7)`
+fn modulus(alloc: Global) -> Made<Term> {
+    term(alloc, Term::Mod(sym(alloc, 1)?, num(alloc, 7)?))
+}
+
+/// `(ite (and (not (<= s0 b0)) T) (mod s1 7) -1)`
+fn choice(alloc: Global) -> Result<Term, Starved> {
+    let test = conjunction(alloc)?;
+    Ok(Term::Ite(test, modulus(alloc)?, num(alloc, -1)?))
 }
 
 /// `(sel (sto (fill 1 9 0) s0 5) (fst s1))`
@@ -88,48 +102,61 @@ fn changed(alloc: Global) -> Result<Term, Starved> {
     Ok(Term::Upd(2, term(alloc, Term::Rec(fields))?, term(alloc, field)?))
 }
 
+/// Whether a term that was made has this text.
+fn made_reads(alloc: Global, made: Result<Term, Starved>, want: &[u8]) -> bool {
+    match made {
+        Ok(t) => reads(alloc, &t, want),
+        Err(_) => false,
+    }
+}
+
 #[test]
-fn texts_of_parts(rt: HostRuntime) -> Result<(), Fail> {
+fn texts_of_parts(rt: HostRuntime) {
     let alloc = rt.alloc();
     assert!(rt;
-        reads(
+        made_reads(
             alloc,
-            &choice(alloc)?,
-            b"(ite (and T (not (<= s0 b0))) -1 (mod s1 7))"
+            choice(alloc),
+            b"(ite (and (not (<= s0 b0)) T) (mod s1 7) -1)"
         )
     );
     assert!(rt;
-        reads(
+        made_reads(
             alloc,
-            &item(alloc)?,
+            item(alloc),
             b"(sel (sto (fill 1 9 0) s0 5) (fst s1))"
         )
     );
     assert!(rt;
-        reads(
+        made_reads(
             alloc,
-            &quantified(alloc)?,
+            quantified(alloc),
             b"(bit (all 1 (lst s0) (any 0 b0 (iff (tru s1) F))))"
         )
     );
     assert!(rt;
-        reads(
+        made_reads(
             alloc,
-            &changed(alloc)?,
+            changed(alloc),
             b"(upd 2 (rec s0 (call 3)) (fld 10 s1))"
         )
     );
-    Ok(())
+}
+
+/// Whether the text of a term is less than that of a symbol.
+fn is_before(alloc: Global, t: &Term, k: u32) -> Option<bool> {
+    match precedes(alloc, t, &Term::Sym(k)) {
+        Ok(first) => Some(first),
+        Err(_) => None,
+    }
 }
 
 #[test]
-fn order_goes_by_bytes(rt: HostRuntime) -> Result<(), Fail> {
+fn order_goes_by_bytes(rt: HostRuntime) {
     let alloc = rt.alloc();
-    let square = Term::Mul(sym(alloc, 0)?, sym(alloc, 0)?);
-    assert!(rt; precedes(alloc, &Term::Sym(10), &Term::Sym(2))?);
-    assert!(rt; precedes(alloc, &Term::Sym(1), &Term::Sym(10))?);
-    assert!(rt; precedes(alloc, &square, &Term::Sym(0))?);
-    assert!(rt; !precedes(alloc, &Term::Sym(0), &square)?);
-    assert!(rt; !precedes(alloc, &Term::Sym(0), &Term::Sym(0))?);
-    Ok(())
+    assert_eq!(rt; is_before(alloc, &Term::Sym(10), 2), Some(true));
+    assert_eq!(rt; is_before(alloc, &Term::Sym(1), 10), Some(true));
+    assert_eq!(rt; is_before(alloc, &Term::Sym(2), 10), Some(false));
+    assert_eq!(rt; is_before(alloc, &Term::Sym(0), 0), Some(false));
+    assert_eq!(rt; is_before(alloc, &Term::Num(7), 0), Some(true));
 }
