@@ -1,0 +1,4 @@
+pub mod Productions
+pub mod Parses
+pub mod Levels
+pub mod Answers

@@ -1,0 +1,11 @@
+//! The grammar of the profile as data, and the derivations of token lists.
+#![tactic(auto)]
+
+mod answers;
+mod grammar;
+mod productions;
+mod symbols;
+
+pub use answers::{Derivation, NumberList, SyntaxFault};
+pub use grammar::{Grammar, Production, spark_grammar};
+pub use symbols::{Construct, Effect, Nonterminal, Symbol, Terminal};
