@@ -1,9 +1,10 @@
 -- The answers for a list of tokens.
-use Rattle.std.specs.Prelude.{◌≡◌, ◌<◌, ◌≤◌, ℕ, suc, List, [], ◌∷◌, ◌++◌, length, map, Option, Some, None}
+use Rattle.std.specs.Prelude.{◌≡◌, ◌<◌, ◌≤◌, ℕ, suc, List, [], ◌∷◌, ◌++◌, length, map, Option, Some, None, Result, Ok, Err}
 use Rattle.std.specs.Prelude as list
 use Rattle.ada_text.specs.declared.token.Token.{Token}
 use Rattle.ada_text.specs.declared.token.TokenKind.{TokenKind}
 use Rattle.ada_text.specs.declared.token.TokenKind.TheVariants as kind
+use Rattle.grammar_table.specs.declared.answers.Derivation.{Derivation}
 use Rattle.grammar_table.specs.declared.answers.SyntaxFault.{SyntaxFault}
 use Rattle.grammar_table.specs.declared.answers.SyntaxFault.TheVariants as fault
 use Rattle.grammar_table.specs.declared.grammar.Production.{Production}
@@ -39,7 +40,7 @@ with_end ts = map Some ts ++ None ∷ []
 
 -- the steps derive a list of tokens that begins so
 abbrev pub Begins : List Production → List (Option Terminal) → List Step → Type 0
-Begins g front steps = Parses g start steps × (list.take (length front) (with_end (taken steps)) ≡ front)
+Begins g front steps = Parses g start steps × ((rest : List (Option Terminal)) × (with_end (taken steps) ≡ front ++ rest))
 
 -- something that can be derived begins so
 abbrev pub GoesOn : List Production → List (Option Terminal) → Type 0
@@ -58,8 +59,13 @@ IsTooDeep g ts k =
     (k < length ts)
     × ((steps : List Step) × Begins g (list.take (suc k) (with_end ts)) steps × IsShallow (list.take k (effects steps)) × (¬ IsShallow (list.take (suc k) (effects steps))))
 
--- a fault is right
+-- the fault is right; the refusal of memory is no answer
 abbrev pub IsFault : List Production → List Terminal → SyntaxFault → Type 0
 IsFault g ts (fault.Unexpected k) = IsUnexpected g ts k
 IsFault g ts (fault.TooDeep k) = IsTooDeep g ts k
 IsFault g ts fault.Starved = ⊥
+
+-- an answer is right
+abbrev pub IsAnswer : List Production → List Terminal → Result Derivation SyntaxFault → Type 0
+IsAnswer g ts (Ok d) = Derives g ts d.productions
+IsAnswer g ts (Err f) = IsFault g ts f

@@ -1,7 +1,7 @@
 //! The grammar as data.
 
-ghost use Rattle.std.specs.Prelude.{◌≡◌, IfOk};
-ghost use Rattle.grammar_table.specs.Productions.{productions};
+ghost use Rattle.std.specs.Prelude.{◌≡◌, IfOk, map};
+ghost use Rattle.grammar_table.specs.Productions.{production, productions};
 
 use crate::productions::PRODUCTIONS;
 use crate::symbols::{Nonterminal, Symbol};
@@ -35,14 +35,33 @@ impl Model for Grammar {
     ghost invariant = { λ g. g.rows ≡ productions };
 }
 
+/// A production with this left and right side.
+fn built(alloc: Global, row: &(Nonterminal, &[Symbol])) -> Result<Production, AllocError>
+    ensures { IfOk result (λ p. p ≡ production row.now.0 row.now.1.now) }
+{
+    let right = Items::from_slice(alloc, row.1)?;
+    Ok(Production { left: row.0, right })
+}
+
+/// The productions of these rows.
+fn built_all(
+    alloc: Global,
+    rows: &[(Nonterminal, &[Symbol])],
+) -> Result<Items<Production>, AllocError>
+    ensures { IfOk result (λ ps. ps ≡ map (λ r. production r.0 r.1.now) rows.now) }
+{
+    let mut built_rows = Items::new(alloc);
+    for row in rows {
+        built_rows.push(built(alloc, row)?)?;
+    }
+    Ok(built_rows)
+}
+
 /// The grammar of the profile. The error comes where memory was refused.
+#[tactic(auto, unfolding(crate::specs::Productions::productions))]
 pub fn spark_grammar(alloc: Global) -> Result<Grammar, AllocError>
     ensures { IfOk result (λ g. g ≡ productions) }
 {
-    let mut rows = Items::new(alloc);
-    for (left, right) in &PRODUCTIONS {
-        let right = Items::from_slice(alloc, right)?;
-        rows.push(Production { left: *left, right })?;
-    }
+    let rows = built_all(alloc, &PRODUCTIONS)?;
     Ok(Grammar { rows })
 }

@@ -2,6 +2,7 @@
 #![tactic(auto)]
 
 mod answers;
+mod choices;
 mod grammar;
 mod productions;
 mod symbols;
