@@ -80,7 +80,7 @@ choice_at (c ∷ cs) P p k e is = chosen_at (has c.before p) cs P p k c.producti
 passed : (j i : ℕ) → (j == i) ≡ true → j ≡ i
 passed j i e = grind (arith, nat_tests)
 
-tag_is : (i : ℕ) (o : Option Nonterminal) (n : Nonterminal) → i ≡ tag_of nonterminal.the_type n → is_at i o ≡ true → o ≡ Some n
+pub tag_is : (i : ℕ) (o : Option Nonterminal) (n : Nonterminal) → i ≡ tag_of nonterminal.the_type n → is_at i o ≡ true → o ≡ Some n
 tag_is i None n same e = absurd (false≢true e)
 tag_is i (Some m) n same e =
     ap Some (tag_one nonterminal.the_type tt m n (passed (tag_of nonterminal.the_type m) i e ∙ same))

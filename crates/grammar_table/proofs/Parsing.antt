@@ -86,7 +86,7 @@ next_taken (expand k ∷ steps) = next_taken steps
 some_one : (i j : ℕ) → Path (Option ℕ) (Some i) (Some j) → i ≡ j
 some_one i j e = cc
 
-same_choice : (n : Nonterminal) (j k : ℕ) (ss : List Symbol) (r s : List Step) → IsConsistent (Phrase n ∷ ss) → left_of productions j ≡ Some n → Parses productions (right_of productions j ++ ss) r → left_of productions k ≡ Some n → Parses productions (right_of productions k ++ ss) s → next_of r ≡ next_of s → j ≡ k
+pub same_choice : (n : Nonterminal) (j k : ℕ) (ss : List Symbol) (r s : List Step) → IsConsistent (Phrase n ∷ ss) → left_of productions j ≡ Some n → Parses productions (right_of productions j ++ ss) r → left_of productions k ≡ Some n → Parses productions (right_of productions k ++ ss) s → next_of r ≡ next_of s → j ≡ k
 same_choice n j k ss r s c a p b q e =
     some_one j k (sym (choice_is n j ss r c a p) ∙ ap (λ (o : Option Terminal). predict n o) e ∙ choice_is n k ss s c b q)
 
