@@ -1,5 +1,6 @@
 -- Fronts of lists of tokens.
 use Rattle.std.proofs.Common.{◌≡◌, ℕ, zero, suc, ◌+◌, ◌<◌, ◌≤◌, List, [], ◌∷◌, ◌++◌, Option, Some, None, length, map, take, drop, refl, sym, ap, ◌∙◌, subst, inl, inr, append_assoc, arith}
+use Rattle.std.specs.List.{slice_get}
 use Rattle.std.proofs.lemmas.Bool.{cases_lt}
 use Rattle.std.proofs.lemmas.List.{take_all, take-append-drop}
 use Rattle.std.proofs.Math.Seq.{take-nil}
@@ -58,3 +59,20 @@ shallow_front m es s k = elim (cases_lt k m) [
   | inl low ↦ subst (λ (l : List Effect). length (open_after [] l) ≤ 200) (sym (take_less k m es (omega arith))) (s k)
   | inr high ↦ subst (λ (l : List Effect). length (open_after [] l) ≤ 200) (sym (take_more k m es high)) (s m)
 ]
+
+pub front_is : (k : ℕ) (ts : List Terminal) → k ≤ length ts → take k (with_end ts) ≡ map Some (take k ts)
+front_is zero ts h = refl
+front_is (suc k) [] h = absurd (omega arith)
+front_is (suc k) (t ∷ ts) h = ap (λ l. Some t ∷ l) (front_is k ts (omega arith))
+
+same_token : (t u : Terminal) → Path (Option Terminal) (Some t) (Some u) → t ≡ u
+same_token t u e = cc
+
+pub front_next : (k : ℕ) (ts : List Terminal) (t : Terminal) → slice_get ts k ≡ Some t → take (suc k) (with_end ts) ≡ and_then (take k ts) (Some t)
+front_next k [] t e = cc
+front_next zero (u ∷ ts) t e = ap (λ (x : Terminal). Some x ∷ []) (same_token u t e)
+front_next (suc k) (u ∷ ts) t e = ap (λ l. Some u ∷ l) (front_next k ts t e)
+
+pub front_end : (ts : List Terminal) → take (suc (length ts)) (with_end ts) ≡ and_then ts None
+front_end [] = refl
+front_end (t ∷ ts) = ap (λ l. Some t ∷ l) (front_end ts)

@@ -56,11 +56,11 @@ next_is (expand k ∷ steps) a more e = next_is steps a more e
 next_seen : (ts : List Terminal) (a : Option Terminal) (done steps rest : List Step) → taken done ≡ ts → Begins productions (and_then ts a) steps → steps ≡ done ++ rest → next_of rest ≡ a
 next_seen ts a done steps rest t b e =
     let long : map Some ts ++ with_end (taken rest) ≡ map Some ts ++ (a ∷ b.1.0) =
-        ap (λ l. map Some l ++ with_end (taken rest)) (sym t)
-        ∙ sym (with_end-append (taken done) (taken rest))
-        ∙ ap with_end (sym (taken-append done rest) ∙ ap taken (sym e))
-        ∙ b.1.1
-        ∙ append_assoc (map Some ts) (a ∷ []) b.1.0 in
+    ap (λ l. map Some l ++ with_end (taken rest)) (sym t)
+    ∙ sym (with_end-append (taken done) (taken rest))
+    ∙ ap with_end (sym (taken-append done rest) ∙ ap taken (sym e))
+    ∙ b.1.1
+    ∙ append_assoc (map Some ts) (a ∷ []) b.1.0 in
     next_is rest a b.1.0 (append_cancel_left (map Some ts) (with_end (taken rest)) (a ∷ b.1.0) long)
 
 -- at the start nothing is done

@@ -1,6 +1,8 @@
 -- What a run has reached. No public contract rests on these definitions.
-use Rattle.std.specs.Prelude.{◌≡◌, ◌<◌, ◌≤◌, ℕ, suc, Bool, true, List, [], ◌∷◌, ◌++◌, length, map, Option, Some, None}
+use Rattle.std.specs.Prelude.{◌≡◌, ◌<◌, ◌≤◌, ℕ, suc, Bool, true, false, List, [], ◌∷◌, ◌++◌, length, map, Option, Some, None}
 use Rattle.std.specs.Prelude as list
+use Rattle.grammar_table.specs.declared.run.Progress.{Progress}
+use Rattle.grammar_table.specs.declared.run.Progress.TheVariants as progress
 use Rattle.grammar_table.specs.declared.symbols.Construct.{Construct}
 use Rattle.grammar_table.specs.declared.symbols.Symbol.{Symbol}
 use Rattle.grammar_table.specs.declared.symbols.Symbol.TheVariants.{Token, Phrase}
@@ -52,3 +54,14 @@ IsSettled (Phrase n ∷ ss) = ⊥
 abbrev pub IsTooDeepAfter : List Terminal → Terminal → Type 0
 IsTooDeepAfter ts t =
     (steps : List Step) × Begins productions (and_then ts (Some t)) steps × IsShallow (list.take (length ts) (effects steps)) × (¬ IsShallow (list.take (suc (length ts)) (effects steps)))
+
+-- phrases were replaced until a token or nothing stands first, or nothing goes on so
+abbrev pub Settles : Bool → List Terminal → Option Terminal → List ℕ → List Construct → List Symbol → Type 0
+Settles true ts next numbers levels left = Reached (and_then ts next) ts numbers levels left × IsSettled left
+Settles false ts next numbers levels left = ¬ GoesOn productions (and_then ts next)
+
+-- what became of a token after these
+abbrev pub Follows : Progress → List Terminal → Terminal → List ℕ → List Construct → List Symbol → Type 0
+Follows progress.Taken ts t numbers levels left = Reached (map Some (ts ++ t ∷ [])) (ts ++ t ∷ []) numbers levels left
+Follows progress.Unexpected ts t numbers levels left = ¬ GoesOn productions (and_then ts (Some t))
+Follows progress.TooDeep ts t numbers levels left = IsTooDeepAfter ts t

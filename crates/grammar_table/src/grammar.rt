@@ -1,11 +1,12 @@
 //! The grammar as data.
 
 ghost use Rattle.std.specs.Prelude.{◌≡◌, IfOk, map};
+ghost use Rattle.grammar_table.specs.Parses.{right_of};
 ghost use Rattle.grammar_table.specs.Productions.{production, productions};
 
 use crate::productions::PRODUCTIONS;
 use crate::symbols::{Nonterminal, Symbol};
-use sqlite_items::Items;
+use sqlite_items::{Items, at};
 use std::alloc::{AllocError, Global};
 use std::marker::Model;
 
@@ -33,6 +34,26 @@ impl Model for Grammar {
     ghost view = { λ g. g.rows };
 
     ghost invariant = { λ g. g.rows ≡ productions };
+}
+
+impl Grammar {
+    /// The productions, by their number.
+    pub fn rows(&self) -> &[Production]
+        ensures rows { result.now ≡ self.now }
+        ensures productions { self.now ≡ productions }
+    {
+        self.rows.as_slice()
+    }
+}
+
+/// The right side of a production; nothing where there is no production of this number.
+pub fn right_of(rows: &[Production], number: u32) -> &[Symbol]
+    ensures { result.now ≡ right_of rows.now number }
+{
+    match at(rows, number as usize) {
+        Some(production) => production.right.as_slice(),
+        None => &[],
+    }
 }
 
 /// A production with this left and right side.

@@ -4,9 +4,14 @@
 mod answers;
 mod choices;
 mod grammar;
+mod levels;
 mod productions;
+mod reading;
+mod run;
+mod stack;
 mod symbols;
 
 pub use answers::{Derivation, NumberList, SyntaxFault};
 pub use grammar::{Grammar, Production, spark_grammar};
+pub use reading::{derive, one_answer};
 pub use symbols::{Construct, Effect, Nonterminal, Symbol, Terminal};

@@ -1,5 +1,8 @@
 //! The symbols of the grammar.
 
+ghost use Rattle.std.specs.Prelude.{◌≡◌};
+ghost use Rattle.grammar_table.specs.Answers.{terminal_of};
+
 use ada_text::{Delimiter, Reserved, TokenKind};
 
 /// A token without what it says: which identifier, which number.
@@ -9,6 +12,20 @@ pub enum Terminal {
     Number,
     Word(Reserved),
     Mark(Delimiter),
+}
+
+impl Terminal {
+    /// The kind of a token, without what it says.
+    pub fn of(kind: TokenKind) -> Terminal
+        ensures { result ≡ terminal_of kind }
+    {
+        match kind {
+            TokenKind::Id => Terminal::Identifier,
+            TokenKind::Number(_) => Terminal::Number,
+            TokenKind::Word(word) => Terminal::Word(word),
+            TokenKind::Mark(mark) => Terminal::Mark(mark),
+        }
+    }
 }
 
 /// What can be open at a place, from the least to the greatest.
