@@ -14,6 +14,16 @@ pub struct Derivation {
     pub productions: NumberList,
 }
 
+/// Memory was refused.
+#[derive(Clone, Copy, Debug, PartialEq, Eq)]
+pub struct Starved;
+
+impl From<AllocError> for Starved {
+    fn from(_error: AllocError) -> Starved {
+        Starved
+    }
+}
+
 /// Why a token list has no derivation. Tokens count from 0.
 #[derive(Clone, Copy, Debug, PartialEq, Eq)]
 pub enum SyntaxFault {
@@ -31,6 +41,16 @@ impl From<AllocError> for SyntaxFault {
     ghost from_gives = { λ _ fault. fault ≡ Starved };
 
     fn from(_error: AllocError) -> SyntaxFault {
+        SyntaxFault::Starved
+    }
+}
+
+impl From<Starved> for SyntaxFault {
+    ghost use Rattle.grammar_table.specs.declared.answers.SyntaxFault.TheVariants.{Starved};
+
+    ghost from_gives = { λ _ fault. fault ≡ Starved };
+
+    fn from(_error: Starved) -> SyntaxFault {
         SyntaxFault::Starved
     }
 }

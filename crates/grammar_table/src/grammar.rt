@@ -4,6 +4,7 @@ ghost use Rattle.std.specs.Prelude.{◌≡◌, IfOk, map};
 ghost use Rattle.grammar_table.specs.Parses.{right_of};
 ghost use Rattle.grammar_table.specs.Productions.{production, productions};
 
+use crate::answers::Starved;
 use crate::productions::PRODUCTIONS;
 use crate::symbols::{Nonterminal, Symbol};
 use sqlite_items::{Items, at};
@@ -80,7 +81,7 @@ fn built_all(
 
 /// The grammar of the profile. The error comes where memory was refused.
 #[tactic(auto, unfolding(crate::specs::Productions::productions))]
-pub fn spark_grammar(alloc: Global) -> Result<Grammar, AllocError>
+pub fn spark_grammar(alloc: Global) -> Result<Grammar, Starved>
     ensures { IfOk result (λ g. g ≡ productions) }
 {
     let rows = built_all(alloc, &PRODUCTIONS)?;

@@ -11,7 +11,10 @@ mod run;
 mod stack;
 mod symbols;
 
-pub use answers::{Derivation, NumberList, SyntaxFault};
-pub use grammar::{Grammar, Production, spark_grammar};
+pub use answers::{Derivation, NumberList, Starved, SyntaxFault};
+pub use grammar::{Grammar, Production, right_of, spark_grammar};
 pub use reading::{derive, one_answer};
 pub use symbols::{Construct, Effect, Nonterminal, Symbol, Terminal};
+
+#[cfg(test)]
+mod tests;

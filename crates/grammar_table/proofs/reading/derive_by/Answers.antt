@@ -43,4 +43,4 @@ returns-clause-fault c =
     let same : length c.args.tokens.now ≡ c.loop-at.at = omega arith in
     let all : take c.loop-at.at ts ≡ ts = take_all c.loop-at.at ts (omega arith) in
     IfErr-weaker c.finish.result _ _ (λ f h starved.
-      right_fault productions ts c.loop-at.at f ((h starved).0 ∙ ap (λ (i : ℕ). fault.Unexpected i) same) (unexpected_end ts c.loop-at.at run.numbers run.levels run.stack end all c.loop-at.invariant ((h starved).1 (take c.loop-at.at ts) c.loop-at.invariant))) c.finish.ensures.fault
+    right_fault productions ts c.loop-at.at f ((h starved).0 ∙ ap (λ (i : ℕ). fault.Unexpected i) same) (unexpected_end ts c.loop-at.at run.numbers run.levels run.stack end all c.loop-at.invariant ((h starved).1 (take c.loop-at.at ts) c.loop-at.invariant))) c.finish.ensures.fault
