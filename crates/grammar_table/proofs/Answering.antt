@@ -12,12 +12,11 @@ use Rattle.grammar_table.specs.declared.grammar.Production.{Production}
 use Rattle.grammar_table.specs.declared.run.Progress.{Progress}
 use Rattle.grammar_table.specs.declared.run.Progress.TheVariants as progress
 use Rattle.grammar_table.specs.declared.symbols.Construct.{Construct}
-use Rattle.grammar_table.specs.declared.symbols.Effect.{Effect}
 use Rattle.grammar_table.specs.declared.symbols.Symbol.{Symbol}
 use Rattle.grammar_table.specs.declared.symbols.Terminal.{Terminal}
-use Rattle.grammar_table.specs.Answers.{start, with_end, Begins, GoesOn, IsUnexpected, IsTooDeep, IsFault, terminal_of, terminals}
+use Rattle.grammar_table.specs.Answers.{with_end, Begins, GoesOn, IsUnexpected, IsTooDeep, IsFault, terminal_of, terminals}
 use Rattle.grammar_table.specs.Levels.{IsShallow}
-use Rattle.grammar_table.specs.Parses.{Step, Parses, effects}
+use Rattle.grammar_table.specs.Parses.{effects}
 use Rattle.grammar_table.specs.Productions.{productions}
 use Rattle.grammar_table.specs.Runs.{Reached, Follows, IsTooDeepAfter, and_then}
 use Rattle.grammar_table.proofs.Fronts.{front_is, front_next, front_end}

@@ -1,5 +1,5 @@
 -- Every list of symbols stands for some tokens.
-use Rattle.std.proofs.Common.{◌≡◌, ℕ, zero, suc, Bool, true, false, List, [], ◌∷◌, ◌++◌, Option, Some, None, refl, sym, ap, ◌∙◌, subst, append_assoc}
+use Rattle.std.proofs.Common.{◌≡◌, ℕ, zero, suc, Bool, true, false, List, [], ◌∷◌, ◌++◌, refl, subst, append_assoc}
 use Rattle.std.specs.Prelude.{◌&&◌}
 use Rattle.std.proofs.lemmas.Bool.{false≢true}
 use denote.Enum.Declared.{tag_of}
@@ -12,7 +12,7 @@ use Rattle.grammar_table.specs.declared.symbols.Symbol.TheVariants.{Token, Phras
 use Rattle.grammar_table.specs.Parses.{Step, take, expand, left_of, right_of, Parses}
 use Rattle.grammar_table.specs.Productions.{productions}
 use Rattle.grammar_table.proofs.Laws.{is_at, tag_is}
-use Rattle.grammar_table.proofs.Tests.{and_left, and_right}
+use Rattle.grammar_table.proofs.Checks.{and_left, and_right}
 use Rattle.grammar_table.proofs.Weights.{shortest, shortest_numbers}
 
 -- the steps that replace each phrase by the production of its shortest completion; the number bounds them

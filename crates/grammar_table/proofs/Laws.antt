@@ -1,6 +1,6 @@
 -- The table is LL(1): the next token, or the end, says which production replaces a phrase.
-use Rattle.std.proofs.Common.{◌≡◌, ℕ, zero, suc, ◌+◌, ◌<◌, ◌≤◌, Bool, true, false, List, [], ◌∷◌, ◌++◌, Option, Some, None, refl, sym, ap, ◌∙◌, subst, arith}
-use Rattle.std.specs.Prelude.{◌==◌, ◌&&◌, nat_lt, nat_eq, map, if◌then◌else◌}
+use Rattle.std.proofs.Common.{◌≡◌, ℕ, ◌+◌, ◌<◌, ◌≤◌, Bool, true, false, List, [], ◌∷◌, ◌++◌, Option, Some, None, refl, ap, ◌∙◌, subst, arith}
+use Rattle.std.specs.Prelude.{◌==◌, ◌&&◌, nat_lt, map, if◌then◌else◌}
 use Rattle.std.specs.List.{list_all}
 use Rattle.std.proofs.lemmas.Bool.{false≢true}
 use Rattle.std.proofs.lemmas.Bool.Decides.{nat_tests}
@@ -18,10 +18,10 @@ use Rattle.grammar_table.specs.declared.symbols.Symbol.{Symbol}
 use Rattle.grammar_table.specs.declared.symbols.Symbol.TheVariants.{Token, Phrase}
 use Rattle.grammar_table.specs.declared.symbols.Terminal.{Terminal}
 use Rattle.grammar_table.specs.declared.symbols.Terminal.TheVariants.{Identifier, Number, Word, Mark}
-use Rattle.grammar_table.specs.Choices.{place, has, among, row_of, choices_of, predict, follow_sets, follow_set, follows}
+use Rattle.grammar_table.specs.Choices.{place, has, among, row_of, choices_of, follow_sets, follow_set, follows}
 use Rattle.grammar_table.specs.Parses.{left_of, right_of}
 use Rattle.grammar_table.specs.Productions.{productions}
-use Rattle.grammar_table.proofs.Tests.{and_left, and_right, implies, below, below_all, at_members, at_choices, AheadIn, at_ahead, ahead_passes, FollowIn, follow_in, follow_passes, is_number, number_is, is_chosen, is_lighter, is_good, are_good, good_at}
+use Rattle.grammar_table.proofs.Checks.{and_left, and_right, implies, below, below_all, at_members, at_choices, AheadIn, ahead_passes, FollowIn, follow_in, follow_passes, is_number, number_is, is_chosen, is_lighter, is_good, are_good, good_at}
 use Rattle.grammar_table.proofs.Weights.{lead, all_empty, weights, empties, weight, may_be_empty}
 
 -- the test of the whole table

@@ -1,4 +1,5 @@
 pub mod Answering
+pub mod Checks
 pub mod Completions
 pub mod Fronts
 pub mod Laws
@@ -6,5 +7,4 @@ pub mod Only
 pub mod Parsing
 pub mod Reaching
 pub mod Steps
-pub mod Tests
 pub mod Weights

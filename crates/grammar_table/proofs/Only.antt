@@ -9,14 +9,14 @@ use Rattle.grammar_table.specs.declared.symbols.Effect.{Effect}
 use Rattle.grammar_table.specs.declared.symbols.Symbol.{Symbol}
 use Rattle.grammar_table.specs.declared.symbols.Symbol.TheVariants.{Token, Phrase}
 use Rattle.grammar_table.specs.declared.symbols.Terminal.{Terminal}
-use Rattle.grammar_table.specs.Answers.{start, Begins, GoesOn, Derives, IsUnexpected, IsTooDeep, IsFault, IsAnswer, with_end}
+use Rattle.grammar_table.specs.Answers.{start, Begins, GoesOn, Derives, IsUnexpected, IsTooDeep, IsAnswer, with_end}
 use Rattle.grammar_table.specs.Levels.{IsShallow}
 use Rattle.grammar_table.specs.Parses.{Step, take, expand, right_of, Parses, taken, effects, used}
 use Rattle.grammar_table.specs.Productions.{productions}
 use Rattle.grammar_table.specs.Runs.{IsConsistent}
 use Rattle.grammar_table.proofs.Fronts.{take_less, shorter_front, whole_front, front_tokens, shallow_front}
 use Rattle.grammar_table.proofs.Laws.{end_follows}
-use Rattle.grammar_table.proofs.Parsing.{next_of, head, next_taken, expand_consistent, parse_end, parse_token, parse_phrase, same_choice, same_parse}
+use Rattle.grammar_table.proofs.Parsing.{head, next_taken, expand_consistent, parse_end, parse_token, parse_phrase, same_choice, same_parse}
 
 pub start_consistent : IsConsistent start
 start_consistent = (λ at h e. subst (λ (p : ℕ). Rattle.grammar_table.specs.Choices.follows Rattle.grammar_table.specs.declared.symbols.Nonterminal.TheVariants.File p ≡ Rattle.std.proofs.Common.true) (sym e) end_follows, tt)

@@ -1,5 +1,5 @@
 -- What a run has reached, from step to step.
-use Rattle.std.proofs.Common.{◌≡◌, ℕ, zero, suc, ◌+◌, ◌<◌, ◌≤◌, Bool, true, List, [], ◌∷◌, ◌++◌, Option, Some, None, length, map, refl, sym, ap, ◌∙◌, subst, inl, inr, append_assoc, append-nil, length-append, arith}
+use Rattle.std.proofs.Common.{◌≡◌, ℕ, suc, ◌<◌, ◌≤◌, List, [], ◌∷◌, ◌++◌, Option, Some, None, length, map, refl, sym, ap, ◌∙◌, subst, inl, inr, append_assoc, append-nil, length-append, arith}
 use Rattle.std.specs.Prelude as list
 use Rattle.std.proofs.lemmas.Bool.{cases_lt}
 use Rattle.std.proofs.lemmas.List.{append_cancel_left, map-append, take-append-le, take_all}
@@ -11,11 +11,11 @@ use Rattle.grammar_table.specs.declared.symbols.Symbol.{Symbol}
 use Rattle.grammar_table.specs.declared.symbols.Symbol.TheVariants.{Token, Phrase}
 use Rattle.grammar_table.specs.declared.symbols.Terminal.{Terminal}
 use Rattle.grammar_table.specs.Answers.{start, with_end, Begins, GoesOn, Derives}
-use Rattle.grammar_table.specs.Choices.{place, predict, choices_of}
+use Rattle.grammar_table.specs.Choices.{place, predict}
 use Rattle.grammar_table.specs.Levels.{after, open_after, IsShallow}
 use Rattle.grammar_table.specs.Parses.{Step, take, expand, left_of, right_of, Parses, taken, effects, used}
 use Rattle.grammar_table.specs.Productions.{productions}
-use Rattle.grammar_table.specs.Runs.{IsConsistent, Leads, Reached, and_then, IsTooDeepAfter}
+use Rattle.grammar_table.specs.Runs.{IsConsistent, Reached, and_then, IsTooDeepAfter}
 use Rattle.grammar_table.proofs.Completions.{completes}
 use Rattle.grammar_table.proofs.Fronts.{with_end-append}
 use Rattle.grammar_table.proofs.Laws.{own}

@@ -1,12 +1,11 @@
 -- One step of a run.
-use Rattle.std.proofs.Common.{◌≡◌, ℕ, zero, suc, ◌+◌, ◌<◌, ◌≤◌, Bool, true, false, List, [], ◌∷◌, ◌++◌, Option, Some, None, length, map, drop, refl, sym, ap, ◌∙◌, subst, arith}
+use Rattle.std.proofs.Common.{◌≡◌, ℕ, zero, suc, ◌+◌, ◌<◌, Bool, true, false, List, [], ◌∷◌, ◌++◌, Option, Some, None, drop, refl, sym, ap, ◌∙◌, subst, arith}
 use Rattle.std.specs.Prelude.{nat_le, if◌then◌else◌, IsTrue, ◌↔◌, nat_eq}
 use Rattle.std.specs.List.{slice_get}
 use Rattle.std.proofs.lemmas.Bool.Decides.{nat_tests}
 use denote.Enum.Declared.{tag_of, rowss}
 use denote.Enum.Bare.{tag_one}
 use denote.Enum.Enum.{tag_below}
-use Rattle.ada_text.specs.declared.delimiters.Delimiter.{Delimiter}
 use Rattle.ada_text.specs.declared.reserved.Reserved.{Reserved}
 use Rattle.ada_text.specs.contracts.delimiters.Delimiter as delimiter
 use Rattle.ada_text.specs.contracts.reserved.Reserved as reserved

@@ -6,7 +6,6 @@ use Rattle.ada_text.specs.declared.reserved.Reserved.{Reserved}
 use Rattle.ada_text.specs.declared.reserved.Reserved.TheVariants as word
 use Rattle.grammar_table.specs.declared.symbols.Construct.{Construct}
 use Rattle.grammar_table.specs.declared.symbols.Construct.TheVariants as construct
-use Rattle.grammar_table.specs.declared.symbols.Effect.{Effect}
 use Rattle.grammar_table.specs.declared.symbols.Effect.TheVariants as effect
 use Rattle.grammar_table.specs.declared.symbols.Nonterminal.{Nonterminal}
 use Rattle.grammar_table.specs.declared.symbols.Nonterminal.TheVariants as non

@@ -1,10 +1,9 @@
-use Rattle.std.proofs.Common.{◌≡◌, ◌∙◌, ℕ, ◌<◌, ◌≤◌, List, length, Option, Some, None, take, map, ap, sym, subst, arith}
+use Rattle.std.proofs.Common.{◌≡◌, ◌∙◌, ℕ, length, Some, take, ap, arith}
 use Rattle.std.specs.List.{slice_get}
 use Rattle.std.proofs.lemmas.List.{take_all}
 use Rattle.std.proofs.lemmas.Result.{IfErr-weaker}
 use Rattle.grammar_table.specs.declared.answers.SyntaxFault.TheVariants as fault
-use Rattle.grammar_table.specs.declared.symbols.Terminal.{Terminal}
-use Rattle.grammar_table.specs.Answers.{terminals, terminal_of}
+use Rattle.grammar_table.specs.Answers.{terminals}
 use Rattle.grammar_table.specs.Productions.{productions}
 use Rattle.grammar_table.proofs.Answering.{as_long, at_is, follows_taken, follows_unexpected, follows_deep, unexpected_at, unexpected_end, deep_at, more_taken, right_fault}
 use Rattle.grammar_table.proofs.reading.derive_by.Goals as goal

@@ -1,5 +1,4 @@
-use Rattle.std.proofs.Common.{◌≡◌, ◌∙◌, List, ◌∷◌, [], map, Option, Some, None, true, false, refl, rules, sym}
-use Rattle.grammar_table.specs.declared.symbols.Terminal.{Terminal}
+use Rattle.std.proofs.Common.{◌≡◌, ◌∷◌, [], map, Some, None, true, false, refl, rules}
 use Rattle.grammar_table.proofs.Reaching.{reached_seen}
 use Rattle.grammar_table.proofs.Steps.{settled_no, settled_yes, left_over, nothing_left}
 use Rattle.grammar_table.proofs.run.Run.finish.Goals as goal

@@ -1,4 +1,4 @@
-use Rattle.std.proofs.Common.{◌≡◌, ◌∙◌, List, ◌∷◌, [], map, Option, Some, true, false, rules, sym}
+use Rattle.std.proofs.Common.{◌≡◌, ◌∙◌, ◌∷◌, [], map, Some, true, false, rules, sym}
 use Rattle.std.proofs.lemmas.Result.{IfOk-weaker}
 use Rattle.grammar_table.proofs.Reaching.{reached_seen}
 use Rattle.grammar_table.proofs.Steps.{settled_no, settled_yes, not_first, taken_first}

@@ -1,4 +1,4 @@
-use Rattle.std.proofs.Common.{◌<◌, ◌≤◌, List, length, map, ◌++◌, ◌∷◌, [], Option, Some, ap, sym, subst, arith}
+use Rattle.std.proofs.Common.{◌<◌, ◌≤◌, List, length, map, ◌++◌, ◌∷◌, [], Some, ap, sym, subst, arith}
 use Rattle.grammar_table.specs.declared.symbols.Construct.{Construct}
 use Rattle.grammar_table.specs.Levels.{after}
 use Rattle.grammar_table.specs.Runs.{Reached}
