@@ -14,22 +14,22 @@ use Rattle.grammar_table.specs.declared.run.Progress.TheVariants as progress
 use Rattle.grammar_table.specs.declared.symbols.Construct.{Construct}
 use Rattle.grammar_table.specs.declared.symbols.Symbol.{Symbol}
 use Rattle.grammar_table.specs.declared.symbols.Terminal.{Terminal}
-use Rattle.grammar_table.specs.Answers.{with_end, Begins, GoesOn, IsUnexpected, IsTooDeep, IsFault, terminal_of, terminals}
+use Rattle.grammar_table.specs.Answers.{with_end, BeginsWith, GoesOn, IsUnexpected, IsTooDeep, IsFault, terminal_of, terminals}
 use Rattle.grammar_table.specs.Levels.{IsShallow}
 use Rattle.grammar_table.specs.Parses.{effects}
 use Rattle.grammar_table.specs.Productions.{productions}
-use Rattle.grammar_table.specs.Runs.{Reached, Follows, IsTooDeepAfter, and_then}
+use Rattle.grammar_table.specs.Runs.{Reached, IsProgress, IsTooDeepAfter, and_then}
 use Rattle.grammar_table.proofs.Fronts.{front_is, front_next, front_end}
 use Rattle.grammar_table.proofs.Reaching.{goes_on}
 
-pub follows_taken : (p : Progress) (ts : List Terminal) (t : Terminal) (ns : List ℕ) (os : List Construct) (ss : List Symbol) → p ≡ progress.Taken → Follows p ts t ns os ss → Reached (map Some (ts ++ t ∷ [])) (ts ++ t ∷ []) ns os ss
-follows_taken p ts t ns os ss e h = subst (λ (q : Progress). Follows q ts t ns os ss) e h
+pub progress_taken : (p : Progress) (ts : List Terminal) (t : Terminal) (ns : List ℕ) (os : List Construct) (ss : List Symbol) → p ≡ progress.Taken → IsProgress p ts t ns os ss → Reached (map Some (ts ++ t ∷ [])) (ts ++ t ∷ []) ns os ss
+progress_taken p ts t ns os ss e h = subst (λ (q : Progress). IsProgress q ts t ns os ss) e h
 
-pub follows_unexpected : (p : Progress) (ts : List Terminal) (t : Terminal) (ns : List ℕ) (os : List Construct) (ss : List Symbol) → p ≡ progress.Unexpected → Follows p ts t ns os ss → GoesOn productions (and_then ts (Some t)) → ⊥
-follows_unexpected p ts t ns os ss e h = subst (λ (q : Progress). Follows q ts t ns os ss) e h
+pub progress_unexpected : (p : Progress) (ts : List Terminal) (t : Terminal) (ns : List ℕ) (os : List Construct) (ss : List Symbol) → p ≡ progress.Unexpected → IsProgress p ts t ns os ss → GoesOn productions (and_then ts (Some t)) → ⊥
+progress_unexpected p ts t ns os ss e h = subst (λ (q : Progress). IsProgress q ts t ns os ss) e h
 
-pub follows_deep : (p : Progress) (ts : List Terminal) (t : Terminal) (ns : List ℕ) (os : List Construct) (ss : List Symbol) → p ≡ progress.TooDeep → Follows p ts t ns os ss → IsTooDeepAfter ts t
-follows_deep p ts t ns os ss e h = subst (λ (q : Progress). Follows q ts t ns os ss) e h
+pub progress_deep : (p : Progress) (ts : List Terminal) (t : Terminal) (ns : List ℕ) (os : List Construct) (ss : List Symbol) → p ≡ progress.TooDeep → IsProgress p ts t ns os ss → IsTooDeepAfter ts t
+progress_deep p ts t ns os ss e h = subst (λ (q : Progress). IsProgress q ts t ns os ss) e h
 
 -- a run that has taken the first k tokens
 unexpected : (ts : List Terminal) (k : ℕ) (next : Option Terminal) (ns : List ℕ) (os : List Construct) (ss : List Symbol) → k ≤ length ts → list.take (suc k) (with_end ts) ≡ and_then (list.take k ts) next → Reached (map Some (list.take k ts)) (list.take k ts) ns os ss → (GoesOn productions (and_then (list.take k ts) next) → ⊥) → IsUnexpected productions ts k
@@ -38,7 +38,7 @@ unexpected ts k next ns os ss h front r never =
       h,
       (
         steps,
-        subst (λ (l : List (Option Terminal)). Begins productions l steps) (sym (front_is k ts h)) b,
+        subst (λ (l : List (Option Terminal)). BeginsWith productions l steps) (sym (front_is k ts h)) b,
         subst (λ (i : ℕ). IsShallow (list.take i (effects steps))) (length-take-le k ts h) shallow,
       ),
       λ g. never (subst (λ (l : List (Option Terminal)). GoesOn productions l) front g),
@@ -63,7 +63,7 @@ deep_at ts k t e (steps, b, shallow, deep) =
       h,
       (
         steps,
-        subst (λ (l : List (Option Terminal)). Begins productions l steps) (sym (front_next k ts t e)) b,
+        subst (λ (l : List (Option Terminal)). BeginsWith productions l steps) (sym (front_next k ts t e)) b,
         subst (λ (i : ℕ). IsShallow (list.take i (effects steps))) count shallow,
         λ s. deep (subst (λ (i : ℕ). IsShallow (list.take (suc i) (effects steps))) (sym count) s),
       ),

@@ -9,7 +9,7 @@ use Rattle.grammar_table.specs.declared.symbols.Effect.{Effect}
 use Rattle.grammar_table.specs.declared.symbols.Symbol.{Symbol}
 use Rattle.grammar_table.specs.declared.symbols.Symbol.TheVariants.{Token, Phrase}
 use Rattle.grammar_table.specs.declared.symbols.Terminal.{Terminal}
-use Rattle.grammar_table.specs.Answers.{start, Begins, GoesOn, Derives, IsUnexpected, IsTooDeep, IsAnswer, with_end}
+use Rattle.grammar_table.specs.Answers.{start, BeginsWith, GoesOn, Derives, IsUnexpected, IsTooDeep, IsAnswer, with_end}
 use Rattle.grammar_table.specs.Levels.{IsShallow}
 use Rattle.grammar_table.specs.Parses.{Step, take, expand, right_of, Parses, taken, effects, used}
 use Rattle.grammar_table.specs.Productions.{productions}
@@ -57,7 +57,7 @@ deep_shallow ts m n s r p q h a b shallow =
     let tokens : list.take m (taken s) ≡ list.take m (taken r) = a ∙ sym (take_less m n ts h) ∙ ap (list.take m) (sym b) ∙ take_less m n (taken r) h in
     subst (λ (l : List Effect). IsShallow l) (sym (same_effects m start s r start_consistent p q tokens ∙ sym (take_less m n (effects r) h))) (shallow_front m (list.take n (effects r)) shallow)
 
-goes_less : (ts : List Terminal) (i m : ℕ) (s : List Step) → i ≤ m → Begins productions (list.take m (with_end ts)) s → GoesOn productions (list.take i (with_end ts))
+goes_less : (ts : List Terminal) (i m : ℕ) (s : List Step) → i ≤ m → BeginsWith productions (list.take m (with_end ts)) s → GoesOn productions (list.take i (with_end ts))
 goes_less ts i m s h b = (s, (b.0, shorter_front i m (with_end (taken s)) (with_end ts) b.1.0 h b.1.1))
 
 both_derive : (ts : List Terminal) (d e : List ℕ) → Derives productions ts d → Derives productions ts e → d ≡ e

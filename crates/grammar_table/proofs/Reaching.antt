@@ -10,7 +10,7 @@ use Rattle.grammar_table.specs.declared.symbols.Nonterminal.{Nonterminal}
 use Rattle.grammar_table.specs.declared.symbols.Symbol.{Symbol}
 use Rattle.grammar_table.specs.declared.symbols.Symbol.TheVariants.{Token, Phrase}
 use Rattle.grammar_table.specs.declared.symbols.Terminal.{Terminal}
-use Rattle.grammar_table.specs.Answers.{start, with_end, Begins, GoesOn, Derives}
+use Rattle.grammar_table.specs.Answers.{start, with_end, BeginsWith, GoesOn, Derives}
 use Rattle.grammar_table.specs.Choices.{place, predict}
 use Rattle.grammar_table.specs.Levels.{after, open_after, IsShallow}
 use Rattle.grammar_table.specs.Parses.{Step, take, expand, left_of, right_of, Parses, taken, effects, used}
@@ -53,7 +53,7 @@ next_is (take t d ∷ steps) a more e = cc
 next_is (expand k ∷ steps) a more e = next_is steps a more e
 
 -- of what goes on so, the next token is the last one seen
-next_seen : (ts : List Terminal) (a : Option Terminal) (done steps rest : List Step) → taken done ≡ ts → Begins productions (and_then ts a) steps → steps ≡ done ++ rest → next_of rest ≡ a
+next_seen : (ts : List Terminal) (a : Option Terminal) (done steps rest : List Step) → taken done ≡ ts → BeginsWith productions (and_then ts a) steps → steps ≡ done ++ rest → next_of rest ≡ a
 next_seen ts a done steps rest t b e =
     let long : map Some ts ++ with_end (taken rest) ≡ map Some ts ++ (a ∷ b.1.0) =
     ap (λ l. map Some l ++ with_end (taken rest)) (sym t)
@@ -90,7 +90,7 @@ reached_seen seen more ts ns o ss r = record {
 }
 
 -- the only production for the phrase that stands first
-must_expand : (ts : List Terminal) (a : Option Terminal) (done steps rest : List Step) (n : Nonterminal) (ss : List Symbol) → taken done ≡ ts → Begins productions (and_then ts a) steps → steps ≡ done ++ rest → IsConsistent (Phrase n ∷ ss) → Parses productions (Phrase n ∷ ss) rest → (j : ℕ) × (more : List Step) × (rest ≡ expand j ∷ more) × (predict n a ≡ Some j) × Parses productions (right_of productions j ++ ss) more
+must_expand : (ts : List Terminal) (a : Option Terminal) (done steps rest : List Step) (n : Nonterminal) (ss : List Symbol) → taken done ≡ ts → BeginsWith productions (and_then ts a) steps → steps ≡ done ++ rest → IsConsistent (Phrase n ∷ ss) → Parses productions (Phrase n ∷ ss) rest → (j : ℕ) × (more : List Step) × (rest ≡ expand j ∷ more) × (predict n a ≡ Some j) × Parses productions (right_of productions j ++ ss) more
 must_expand ts a done steps rest n ss t b e c p =
     let (j, more, is, left, there) = parse_phrase productions n ss rest p in
     let next : next_of more ≡ a = ap next_of (sym is) ∙ next_seen ts a done steps rest t b e in
@@ -116,7 +116,7 @@ reached_expand ts a ns o n ss k is r =
       shallow = subst (λ (l : List Effect). IsShallow l) (sym (effects-append r.done (expand k ∷ []) ∙ append-nil (effects r.done))) r.shallow;
     }
   where
-    expanded : (steps : List Step) → Begins productions (and_then ts a) steps → left_of productions k ≡ Some n → (rest : List Step) × (steps ≡ (r.done ++ expand k ∷ []) ++ rest) × Parses productions (right_of productions k ++ ss) rest
+    expanded : (steps : List Step) → BeginsWith productions (and_then ts a) steps → left_of productions k ≡ Some n → (rest : List Step) × (steps ≡ (r.done ++ expand k ∷ []) ++ rest) × Parses productions (right_of productions k ++ ss) rest
     expanded steps b left =
         let (rest, e, p) = r.leads.only steps b in
         let (j, more, first, chosen, there) = must_expand ts a r.done steps rest n ss r.taken_is b e r.leads.consistent p in
@@ -174,7 +174,7 @@ reached_take ts ns o t d ss low r = record {
   done = r.done ++ take t d ∷ [];
   leads = record {
     onward = λ rest p. subst (λ (l : List Step). Parses productions start l) (sym (append_assoc r.done (take t d ∷ []) rest)) (r.leads.onward (take t d ∷ rest) (refl, refl, p));
-    only = λ steps b. took steps (subst (λ (l : List (Option Terminal)). Begins productions l steps) (map-append Some ts (t ∷ [])) b);
+    only = λ steps b. took steps (subst (λ (l : List (Option Terminal)). BeginsWith productions l steps) (map-append Some ts (t ∷ [])) b);
     consistent = r.leads.consistent;
   };
   taken_is = taken-append r.done (take t d ∷ []) ∙ ap (λ l. l ++ t ∷ []) r.taken_is;
@@ -183,14 +183,14 @@ reached_take ts ns o t d ss low r = record {
   shallow = subst (λ (l : List Effect). IsShallow l) (sym (effects-append r.done (take t d ∷ []))) (shallow_more (effects r.done) d r.shallow (subst (λ (l : List Construct). length (after d l) ≤ 200) (sym r.levels_are) low));
 }
   where
-    took : (steps : List Step) → Begins productions (and_then ts (Some t)) steps → (rest : List Step) × (steps ≡ (r.done ++ take t d ∷ []) ++ rest) × Parses productions ss rest
+    took : (steps : List Step) → BeginsWith productions (and_then ts (Some t)) steps → (rest : List Step) × (steps ≡ (r.done ++ take t d ∷ []) ++ rest) × Parses productions ss rest
     took steps b =
         let (rest, e, p) = r.leads.only steps b in
         let (more, first, there) = parse_token productions t d ss rest p in
         (more, e ∙ ap (λ l. r.done ++ l) first ∙ sym (append_assoc r.done (take t d ∷ []) more), there)
 
 -- something begins with the tokens that were taken, and is as shallow
-pub goes_on : (seen : List (Option Terminal)) (ts : List Terminal) (ns : List ℕ) (o : List Construct) (ss : List Symbol) → Reached seen ts ns o ss → (steps : List Step) × Begins productions (map Some ts) steps × IsShallow (list.take (length ts) (effects steps))
+pub goes_on : (seen : List (Option Terminal)) (ts : List Terminal) (ns : List ℕ) (o : List Construct) (ss : List Symbol) → Reached seen ts ns o ss → (steps : List Step) × BeginsWith productions (map Some ts) steps × IsShallow (list.take (length ts) (effects steps))
 goes_on seen ts ns o ss r =
     let (rest, p) = completes ss in
     let count : length ts ≡ length (effects r.done) = ap length (sym r.taken_is) ∙ sym (as_many r.done) in (

@@ -39,25 +39,25 @@ abbrev pub with_end : List Terminal → List (Option Terminal)
 with_end ts = map Some ts ++ None ∷ []
 
 -- the steps derive a list of tokens that begins so
-abbrev pub Begins : List Production → List (Option Terminal) → List Step → Type 0
-Begins g front steps = Parses g start steps × ((rest : List (Option Terminal)) × (with_end (taken steps) ≡ front ++ rest))
+abbrev pub BeginsWith : List Production → List (Option Terminal) → List Step → Type 0
+BeginsWith g front steps = Parses g start steps × ((rest : List (Option Terminal)) × (with_end (taken steps) ≡ front ++ rest))
 
 -- something that can be derived begins so
 abbrev pub GoesOn : List Production → List (Option Terminal) → Type 0
-GoesOn g front = (steps : List Step) × Begins g front steps
+GoesOn g front = (steps : List Step) × BeginsWith g front steps
 
 -- k is the first token after which nothing that can be derived goes on so, and no token before it opens level 201
 abbrev pub IsUnexpected : List Production → List Terminal → ℕ → Type 0
 IsUnexpected g ts k =
     (k ≤ length ts)
-    × ((steps : List Step) × Begins g (list.take k (with_end ts)) steps × IsShallow (list.take k (effects steps)))
+    × ((steps : List Step) × BeginsWith g (list.take k (with_end ts)) steps × IsShallow (list.take k (effects steps)))
     × (¬ GoesOn g (list.take (suc k) (with_end ts)))
 
 -- something that can be derived begins with the tokens up to k, of which k is the first to open level 201
 abbrev pub IsTooDeep : List Production → List Terminal → ℕ → Type 0
 IsTooDeep g ts k =
     (k < length ts)
-    × ((steps : List Step) × Begins g (list.take (suc k) (with_end ts)) steps × IsShallow (list.take k (effects steps)) × (¬ IsShallow (list.take (suc k) (effects steps))))
+    × ((steps : List Step) × BeginsWith g (list.take (suc k) (with_end ts)) steps × IsShallow (list.take k (effects steps)) × (¬ IsShallow (list.take (suc k) (effects steps))))
 
 -- the fault is right; the refusal of memory is no answer
 abbrev pub IsFault : List Production → List Terminal → SyntaxFault → Type 0

@@ -7,7 +7,7 @@ use Rattle.grammar_table.specs.declared.symbols.Construct.{Construct}
 use Rattle.grammar_table.specs.declared.symbols.Symbol.{Symbol}
 use Rattle.grammar_table.specs.declared.symbols.Symbol.TheVariants.{Token, Phrase}
 use Rattle.grammar_table.specs.declared.symbols.Terminal.{Terminal}
-use Rattle.grammar_table.specs.Answers.{start, Begins, GoesOn}
+use Rattle.grammar_table.specs.Answers.{start, BeginsWith, GoesOn}
 use Rattle.grammar_table.specs.Choices.{place, among, choices_of, follows}
 use Rattle.grammar_table.specs.Levels.{open_after, IsShallow}
 use Rattle.grammar_table.specs.Parses.{Step, Parses, taken, effects, used}
@@ -28,7 +28,7 @@ IsConsistent (Phrase n ∷ ss) = ((at : ℕ) → at < 128 → Ahead ss at → fo
 -- the steps that are done lead to the symbols that are left, and so does every parse of tokens that begin with those seen
 pub record Leads (seen : List (Option Terminal)) (done : List Step) (left : List Symbol) : Type 0 where
   pub onward : (rest : List Step) → Parses productions left rest → Parses productions start (done ++ rest)
-  pub only : (steps : List Step) → Begins productions seen steps → (rest : List Step) × (steps ≡ done ++ rest) × Parses productions left rest
+  pub only : (steps : List Step) → BeginsWith productions seen steps → (rest : List Step) × (steps ≡ done ++ rest) × Parses productions left rest
   pub consistent : IsConsistent left
 
 -- a run that has seen these tokens, of which it has taken some, has used these productions, and has these levels open and these symbols left
@@ -53,7 +53,7 @@ IsSettled (Phrase n ∷ ss) = ⊥
 -- something that can be derived begins with these tokens, of which the last is the first to open level 201
 abbrev pub IsTooDeepAfter : List Terminal → Terminal → Type 0
 IsTooDeepAfter ts t =
-    (steps : List Step) × Begins productions (and_then ts (Some t)) steps × IsShallow (list.take (length ts) (effects steps)) × (¬ IsShallow (list.take (suc (length ts)) (effects steps)))
+    (steps : List Step) × BeginsWith productions (and_then ts (Some t)) steps × IsShallow (list.take (length ts) (effects steps)) × (¬ IsShallow (list.take (suc (length ts)) (effects steps)))
 
 -- phrases were replaced until a token or nothing stands first, or nothing goes on so
 abbrev pub Settles : Bool → List Terminal → Option Terminal → List ℕ → List Construct → List Symbol → Type 0
@@ -61,7 +61,7 @@ Settles true ts next numbers levels left = Reached (and_then ts next) ts numbers
 Settles false ts next numbers levels left = ¬ GoesOn productions (and_then ts next)
 
 -- what became of a token after these
-abbrev pub Follows : Progress → List Terminal → Terminal → List ℕ → List Construct → List Symbol → Type 0
-Follows progress.Taken ts t numbers levels left = Reached (map Some (ts ++ t ∷ [])) (ts ++ t ∷ []) numbers levels left
-Follows progress.Unexpected ts t numbers levels left = ¬ GoesOn productions (and_then ts (Some t))
-Follows progress.TooDeep ts t numbers levels left = IsTooDeepAfter ts t
+abbrev pub IsProgress : Progress → List Terminal → Terminal → List ℕ → List Construct → List Symbol → Type 0
+IsProgress progress.Taken ts t numbers levels left = Reached (map Some (ts ++ t ∷ [])) (ts ++ t ∷ []) numbers levels left
+IsProgress progress.Unexpected ts t numbers levels left = ¬ GoesOn productions (and_then ts (Some t))
+IsProgress progress.TooDeep ts t numbers levels left = IsTooDeepAfter ts t

@@ -40,6 +40,65 @@ macro_rules! mark {
     };
 }
 
+/// What a primary begins with.
+const PRIMARY: TokenSet = IDENTIFIER | NUMBER | word!(Null) | mark!(Open);
+
+/// What a term begins with.
+const TERM: TokenSet = PRIMARY | word!(Abs) | word!(Not);
+
+/// What an expression begins with.
+const EXPRESSION: TokenSet = TERM | mark!(Plus) | mark!(Minus);
+
+/// What a statement begins with.
+const STATEMENT: TokenSet = IDENTIFIER
+    | word!(Case)
+    | word!(Exit)
+    | word!(For)
+    | word!(If)
+    | word!(Loop)
+    | word!(Null)
+    | word!(Pragma)
+    | word!(Return)
+    | word!(While);
+
+/// The relational operators.
+const COMPARISON: TokenSet = mark!(NotEqual)
+    | mark!(AtLeast)
+    | mark!(AtMost)
+    | mark!(Equal)
+    | mark!(Less)
+    | mark!(Greater);
+
+/// What may follow an expression.
+const AFTER_EXPRESSION: TokenSet = word!(Else)
+    | word!(Elsif)
+    | word!(Is)
+    | word!(Loop)
+    | word!(Then)
+    | mark!(Arrow)
+    | mark!(Close)
+    | mark!(Comma)
+    | mark!(Semicolon);
+
+/// What may follow a relation.
+const AFTER_RELATION: TokenSet = AFTER_EXPRESSION | word!(And) | word!(Or) | word!(Xor);
+
+/// What may follow a simple expression.
+const AFTER_SIMPLE: TokenSet = AFTER_RELATION
+    | COMPARISON
+    | word!(In)
+    | word!(Not)
+    | word!(Range)
+    | mark!(DoubleDot)
+    | mark!(Assign)
+    | mark!(Bar);
+
+/// What may follow a term.
+const AFTER_TERM: TokenSet = AFTER_SIMPLE | mark!(Plus) | mark!(Minus);
+
+/// What may follow a factor.
+const AFTER_FACTOR: TokenSet = AFTER_TERM | mark!(Star) | mark!(Slash) | word!(Mod) | word!(Rem);
+
 macro_rules! choice {
     ($production:literal, $before:expr) => {
         Choice {
@@ -117,17 +176,7 @@ pub static CHOICES: [&[Choice]; 81] = [
         choice!(28, word!(New)),
     ],
     // Index
-    &[choice!(
-        29,
-        IDENTIFIER
-            | NUMBER
-            | word!(Abs)
-            | word!(Not)
-            | word!(Null)
-            | mark!(Open)
-            | mark!(Plus)
-            | mark!(Minus)
-    )],
+    &[choice!(29, EXPRESSION)],
     // IdxTail
     &[
         choice!(30, word!(Range)),
@@ -135,20 +184,7 @@ pub static CHOICES: [&[Choice]; 81] = [
         choice!(32, mark!(Close)),
     ],
     // Box
-    &[
-        choice!(33, mark!(Diamond)),
-        choice!(
-            34,
-            IDENTIFIER
-                | NUMBER
-                | word!(Abs)
-                | word!(Not)
-                | word!(Null)
-                | mark!(Open)
-                | mark!(Plus)
-                | mark!(Minus)
-        ),
-    ],
+    &[choice!(33, mark!(Diamond)), choice!(34, EXPRESSION)],
     // Comp
     &[choice!(35, IDENTIFIER)],
     // Comps
@@ -212,34 +248,10 @@ pub static CHOICES: [&[Choice]; 81] = [
     // PragArg
     &[choice!(69, mark!(Open)), choice!(70, mark!(Semicolon))],
     // Stmts
-    &[choice!(
-        71,
-        IDENTIFIER
-            | word!(Case)
-            | word!(Exit)
-            | word!(For)
-            | word!(If)
-            | word!(Loop)
-            | word!(Null)
-            | word!(Pragma)
-            | word!(Return)
-            | word!(While)
-    )],
+    &[choice!(71, STATEMENT)],
     // StMore
     &[
-        choice!(
-            72,
-            IDENTIFIER
-                | word!(Case)
-                | word!(Exit)
-                | word!(For)
-                | word!(If)
-                | word!(Loop)
-                | word!(Null)
-                | word!(Pragma)
-                | word!(Return)
-                | word!(While)
-        ),
+        choice!(72, STATEMENT),
         choice!(73, word!(Else) | word!(Elsif) | word!(End) | word!(When)),
     ],
     // Stmt
@@ -267,20 +279,7 @@ pub static CHOICES: [&[Choice]; 81] = [
     // Whens
     &[choice!(89, word!(When)), choice!(90, word!(End))],
     // Choice
-    &[
-        choice!(91, word!(Others)),
-        choice!(
-            92,
-            IDENTIFIER
-                | NUMBER
-                | word!(Abs)
-                | word!(Not)
-                | word!(Null)
-                | mark!(Open)
-                | mark!(Plus)
-                | mark!(Minus)
-        ),
-    ],
+    &[choice!(91, word!(Others)), choice!(92, EXPRESSION)],
     // Choices
     &[choice!(93, mark!(Bar)), choice!(94, mark!(Arrow))],
     // Head
@@ -290,83 +289,22 @@ pub static CHOICES: [&[Choice]; 81] = [
         choice!(97, word!(Loop)),
     ],
     // Rev
-    &[
-        choice!(98, word!(Reverse)),
-        choice!(
-            99,
-            IDENTIFIER
-                | NUMBER
-                | word!(Abs)
-                | word!(Not)
-                | word!(Null)
-                | mark!(Open)
-                | mark!(Plus)
-                | mark!(Minus)
-        ),
-    ],
+    &[choice!(98, word!(Reverse)), choice!(99, EXPRESSION)],
     // ExWhen
     &[choice!(100, word!(When)), choice!(101, mark!(Semicolon))],
     // RetVal
-    &[
-        choice!(
-            102,
-            IDENTIFIER
-                | NUMBER
-                | word!(Abs)
-                | word!(Not)
-                | word!(Null)
-                | mark!(Open)
-                | mark!(Plus)
-                | mark!(Minus)
-        ),
-        choice!(103, mark!(Semicolon)),
-    ],
+    &[choice!(102, EXPRESSION), choice!(103, mark!(Semicolon))],
     // Range
-    &[choice!(
-        104,
-        IDENTIFIER
-            | NUMBER
-            | word!(Abs)
-            | word!(Not)
-            | word!(Null)
-            | mark!(Open)
-            | mark!(Plus)
-            | mark!(Minus)
-    )],
+    &[choice!(104, EXPRESSION)],
     // RgTail
     &[
         choice!(105, mark!(DoubleDot)),
-        choice!(
-            106,
-            word!(And)
-                | word!(Else)
-                | word!(Elsif)
-                | word!(Is)
-                | word!(Loop)
-                | word!(Or)
-                | word!(Then)
-                | word!(Xor)
-                | mark!(Arrow)
-                | mark!(Close)
-                | mark!(Comma)
-                | mark!(Semicolon)
-                | mark!(Bar)
-        ),
+        choice!(106, AFTER_RELATION | mark!(Bar)),
     ],
     // Item
     &[
         choice!(107, word!(For) | word!(If)),
-        choice!(
-            108,
-            IDENTIFIER
-                | NUMBER
-                | word!(Abs)
-                | word!(Not)
-                | word!(Null)
-                | mark!(Open)
-                | mark!(Plus)
-                | mark!(Minus)
-        ),
+        choice!(108, EXPRESSION),
     ],
     // Cond
     &[choice!(109, word!(For)), choice!(110, word!(If))],
@@ -389,64 +327,19 @@ pub static CHOICES: [&[Choice]; 81] = [
         ),
     ],
     // Args
-    &[choice!(
-        117,
-        IDENTIFIER
-            | NUMBER
-            | word!(Abs)
-            | word!(For)
-            | word!(If)
-            | word!(Not)
-            | word!(Null)
-            | word!(Others)
-            | mark!(Open)
-            | mark!(Plus)
-            | mark!(Minus)
-    )],
+    &[choice!(117, EXPRESSION | word!(For) | word!(If) | word!(Others))],
     // ArgMore
     &[choice!(118, mark!(Comma)), choice!(119, mark!(Close))],
     // Arg
     &[
         choice!(120, word!(Others)),
         choice!(121, word!(For) | word!(If)),
-        choice!(
-            122,
-            IDENTIFIER
-                | NUMBER
-                | word!(Abs)
-                | word!(Not)
-                | word!(Null)
-                | mark!(Open)
-                | mark!(Plus)
-                | mark!(Minus)
-        ),
+        choice!(122, EXPRESSION),
     ],
     // ArgMid
     &[
         choice!(123, mark!(DoubleDot)),
-        choice!(
-            124,
-            word!(And)
-                | word!(Else)
-                | word!(Elsif)
-                | word!(In)
-                | word!(Is)
-                | word!(Loop)
-                | word!(Not)
-                | word!(Or)
-                | word!(Then)
-                | word!(Xor)
-                | mark!(Arrow)
-                | mark!(NotEqual)
-                | mark!(AtLeast)
-                | mark!(AtMost)
-                | mark!(Close)
-                | mark!(Comma)
-                | mark!(Semicolon)
-                | mark!(Equal)
-                | mark!(Less)
-                | mark!(Greater)
-        ),
+        choice!(124, AFTER_RELATION | COMPARISON | word!(In) | word!(Not)),
     ],
     // ArgVal
     &[
@@ -454,185 +347,36 @@ pub static CHOICES: [&[Choice]; 81] = [
         choice!(126, mark!(Close) | mark!(Comma)),
     ],
     // Expr
-    &[choice!(
-        127,
-        IDENTIFIER
-            | NUMBER
-            | word!(Abs)
-            | word!(Not)
-            | word!(Null)
-            | mark!(Open)
-            | mark!(Plus)
-            | mark!(Minus)
-    )],
+    &[choice!(127, EXPRESSION)],
     // Logic
     &[
         choice!(128, word!(And)),
         choice!(129, word!(Or)),
         choice!(130, word!(Xor)),
-        choice!(
-            131,
-            word!(Else)
-                | word!(Elsif)
-                | word!(Is)
-                | word!(Loop)
-                | word!(Then)
-                | mark!(Arrow)
-                | mark!(Close)
-                | mark!(Comma)
-                | mark!(Semicolon)
-        ),
+        choice!(131, AFTER_EXPRESSION),
     ],
     // AndRest
-    &[
-        choice!(132, word!(Then)),
-        choice!(
-            133,
-            IDENTIFIER
-                | NUMBER
-                | word!(Abs)
-                | word!(Not)
-                | word!(Null)
-                | mark!(Open)
-                | mark!(Plus)
-                | mark!(Minus)
-        ),
-    ],
+    &[choice!(132, word!(Then)), choice!(133, EXPRESSION)],
     // ThenMore
-    &[
-        choice!(134, word!(And)),
-        choice!(
-            135,
-            word!(Else)
-                | word!(Elsif)
-                | word!(Is)
-                | word!(Loop)
-                | word!(Then)
-                | mark!(Arrow)
-                | mark!(Close)
-                | mark!(Comma)
-                | mark!(Semicolon)
-        ),
-    ],
+    &[choice!(134, word!(And)), choice!(135, AFTER_EXPRESSION)],
     // AndMore
-    &[
-        choice!(136, word!(And)),
-        choice!(
-            137,
-            word!(Else)
-                | word!(Elsif)
-                | word!(Is)
-                | word!(Loop)
-                | word!(Then)
-                | mark!(Arrow)
-                | mark!(Close)
-                | mark!(Comma)
-                | mark!(Semicolon)
-        ),
-    ],
+    &[choice!(136, word!(And)), choice!(137, AFTER_EXPRESSION)],
     // OrRest
-    &[
-        choice!(138, word!(Else)),
-        choice!(
-            139,
-            IDENTIFIER
-                | NUMBER
-                | word!(Abs)
-                | word!(Not)
-                | word!(Null)
-                | mark!(Open)
-                | mark!(Plus)
-                | mark!(Minus)
-        ),
-    ],
+    &[choice!(138, word!(Else)), choice!(139, EXPRESSION)],
     // ElseMore
-    &[
-        choice!(140, word!(Or)),
-        choice!(
-            141,
-            word!(Else)
-                | word!(Elsif)
-                | word!(Is)
-                | word!(Loop)
-                | word!(Then)
-                | mark!(Arrow)
-                | mark!(Close)
-                | mark!(Comma)
-                | mark!(Semicolon)
-        ),
-    ],
+    &[choice!(140, word!(Or)), choice!(141, AFTER_EXPRESSION)],
     // OrMore
-    &[
-        choice!(142, word!(Or)),
-        choice!(
-            143,
-            word!(Else)
-                | word!(Elsif)
-                | word!(Is)
-                | word!(Loop)
-                | word!(Then)
-                | mark!(Arrow)
-                | mark!(Close)
-                | mark!(Comma)
-                | mark!(Semicolon)
-        ),
-    ],
+    &[choice!(142, word!(Or)), choice!(143, AFTER_EXPRESSION)],
     // XorMore
-    &[
-        choice!(144, word!(Xor)),
-        choice!(
-            145,
-            word!(Else)
-                | word!(Elsif)
-                | word!(Is)
-                | word!(Loop)
-                | word!(Then)
-                | mark!(Arrow)
-                | mark!(Close)
-                | mark!(Comma)
-                | mark!(Semicolon)
-        ),
-    ],
+    &[choice!(144, word!(Xor)), choice!(145, AFTER_EXPRESSION)],
     // Rel
-    &[choice!(
-        146,
-        IDENTIFIER
-            | NUMBER
-            | word!(Abs)
-            | word!(Not)
-            | word!(Null)
-            | mark!(Open)
-            | mark!(Plus)
-            | mark!(Minus)
-    )],
+    &[choice!(146, EXPRESSION)],
     // RelTail
     &[
-        choice!(
-            147,
-            mark!(NotEqual)
-                | mark!(AtLeast)
-                | mark!(AtMost)
-                | mark!(Equal)
-                | mark!(Less)
-                | mark!(Greater)
-        ),
+        choice!(147, COMPARISON),
         choice!(148, word!(In)),
         choice!(149, word!(Not)),
-        choice!(
-            150,
-            word!(And)
-                | word!(Else)
-                | word!(Elsif)
-                | word!(Is)
-                | word!(Loop)
-                | word!(Or)
-                | word!(Then)
-                | word!(Xor)
-                | mark!(Arrow)
-                | mark!(Close)
-                | mark!(Comma)
-                | mark!(Semicolon)
-        ),
+        choice!(150, AFTER_RELATION),
     ],
     // RelOp
     &[
@@ -647,127 +391,32 @@ pub static CHOICES: [&[Choice]; 81] = [
     &[
         choice!(157, mark!(Plus)),
         choice!(158, mark!(Minus)),
-        choice!(
-            159,
-            IDENTIFIER | NUMBER | word!(Abs) | word!(Not) | word!(Null) | mark!(Open)
-        ),
+        choice!(159, TERM),
     ],
     // AddMore
     &[
         choice!(160, mark!(Plus)),
         choice!(161, mark!(Minus)),
-        choice!(
-            162,
-            word!(And)
-                | word!(Else)
-                | word!(Elsif)
-                | word!(In)
-                | word!(Is)
-                | word!(Loop)
-                | word!(Not)
-                | word!(Or)
-                | word!(Range)
-                | word!(Then)
-                | word!(Xor)
-                | mark!(Arrow)
-                | mark!(DoubleDot)
-                | mark!(Assign)
-                | mark!(NotEqual)
-                | mark!(AtLeast)
-                | mark!(AtMost)
-                | mark!(Close)
-                | mark!(Comma)
-                | mark!(Semicolon)
-                | mark!(Equal)
-                | mark!(Less)
-                | mark!(Greater)
-                | mark!(Bar)
-        ),
+        choice!(162, AFTER_SIMPLE),
     ],
     // Term
-    &[choice!(
-        163,
-        IDENTIFIER | NUMBER | word!(Abs) | word!(Not) | word!(Null) | mark!(Open)
-    )],
+    &[choice!(163, TERM)],
     // MulMore
     &[
         choice!(164, mark!(Star)),
         choice!(165, mark!(Slash)),
         choice!(166, word!(Mod)),
         choice!(167, word!(Rem)),
-        choice!(
-            168,
-            word!(And)
-                | word!(Else)
-                | word!(Elsif)
-                | word!(In)
-                | word!(Is)
-                | word!(Loop)
-                | word!(Not)
-                | word!(Or)
-                | word!(Range)
-                | word!(Then)
-                | word!(Xor)
-                | mark!(Arrow)
-                | mark!(DoubleDot)
-                | mark!(Assign)
-                | mark!(NotEqual)
-                | mark!(AtLeast)
-                | mark!(AtMost)
-                | mark!(Close)
-                | mark!(Comma)
-                | mark!(Semicolon)
-                | mark!(Plus)
-                | mark!(Minus)
-                | mark!(Equal)
-                | mark!(Less)
-                | mark!(Greater)
-                | mark!(Bar)
-        ),
+        choice!(168, AFTER_TERM),
     ],
     // Factor
     &[
         choice!(169, word!(Abs)),
         choice!(170, word!(Not)),
-        choice!(171, IDENTIFIER | NUMBER | word!(Null) | mark!(Open)),
+        choice!(171, PRIMARY),
     ],
     // Pow
-    &[
-        choice!(172, mark!(DoubleStar)),
-        choice!(
-            173,
-            word!(And)
-                | word!(Else)
-                | word!(Elsif)
-                | word!(In)
-                | word!(Is)
-                | word!(Loop)
-                | word!(Mod)
-                | word!(Not)
-                | word!(Or)
-                | word!(Range)
-                | word!(Rem)
-                | word!(Then)
-                | word!(Xor)
-                | mark!(Arrow)
-                | mark!(DoubleDot)
-                | mark!(Assign)
-                | mark!(NotEqual)
-                | mark!(AtLeast)
-                | mark!(AtMost)
-                | mark!(Close)
-                | mark!(Comma)
-                | mark!(Semicolon)
-                | mark!(Plus)
-                | mark!(Minus)
-                | mark!(Star)
-                | mark!(Slash)
-                | mark!(Equal)
-                | mark!(Less)
-                | mark!(Greater)
-                | mark!(Bar)
-        ),
-    ],
+    &[choice!(172, mark!(DoubleStar)), choice!(173, AFTER_FACTOR)],
     // Primary
     &[
         choice!(174, NUMBER),
@@ -782,41 +431,7 @@ pub static CHOICES: [&[Choice]; 81] = [
         choice!(179, mark!(Dot)),
         choice!(180, mark!(Tick)),
         choice!(181, mark!(Open)),
-        choice!(
-            182,
-            word!(And)
-                | word!(Else)
-                | word!(Elsif)
-                | word!(In)
-                | word!(Is)
-                | word!(Loop)
-                | word!(Mod)
-                | word!(Not)
-                | word!(Or)
-                | word!(Range)
-                | word!(Rem)
-                | word!(Then)
-                | word!(With)
-                | word!(Xor)
-                | mark!(Arrow)
-                | mark!(DoubleDot)
-                | mark!(DoubleStar)
-                | mark!(Assign)
-                | mark!(NotEqual)
-                | mark!(AtLeast)
-                | mark!(AtMost)
-                | mark!(Close)
-                | mark!(Comma)
-                | mark!(Semicolon)
-                | mark!(Plus)
-                | mark!(Minus)
-                | mark!(Star)
-                | mark!(Slash)
-                | mark!(Equal)
-                | mark!(Less)
-                | mark!(Greater)
-                | mark!(Bar)
-        ),
+        choice!(182, AFTER_FACTOR | word!(With) | mark!(DoubleStar)),
     ],
     // Tick
     &[

@@ -33,6 +33,13 @@ macro_rules! mark {
     };
 }
 
+/// A mark that ends what stands before it.
+macro_rules! separator {
+    ($mark:ident) => {
+        mark!($mark, Ends(Conditional))
+    };
+}
+
 macro_rules! phrase {
     ($name:ident) => {
         Phrase(Nonterminal::$name)
@@ -50,7 +57,7 @@ pub static PRODUCTIONS: [(Nonterminal, &[Symbol]); 186] = [
             word!(With),
             IDENTIFIER,
             phrase!(Ids),
-            mark!(Semicolon, Ends(Conditional)),
+            separator!(Semicolon),
             phrase!(Start),
         ],
     ),
@@ -60,14 +67,14 @@ pub static PRODUCTIONS: [(Nonterminal, &[Symbol]); 186] = [
             word!(Use),
             IDENTIFIER,
             phrase!(Ids),
-            mark!(Semicolon, Ends(Conditional)),
+            separator!(Semicolon),
             phrase!(Start),
         ],
     ),
     (Nonterminal::Start, &[]),
     (
         Nonterminal::Ids,
-        &[mark!(Comma, Ends(Conditional)), IDENTIFIER, phrase!(Ids)],
+        &[separator!(Comma), IDENTIFIER, phrase!(Ids)],
     ),
     (Nonterminal::Ids, &[]),
     (Nonterminal::Unit, &[word!(Package), phrase!(Pack)]),
@@ -82,7 +89,7 @@ pub static PRODUCTIONS: [(Nonterminal, &[Symbol]); 186] = [
             phrase!(Decls),
             word!(End),
             phrase!(EndId),
-            mark!(Semicolon, Ends(Conditional)),
+            separator!(Semicolon),
         ],
     ),
     (
@@ -95,7 +102,7 @@ pub static PRODUCTIONS: [(Nonterminal, &[Symbol]); 186] = [
             phrase!(Priv),
             word!(End),
             phrase!(EndId),
-            mark!(Semicolon, Ends(Conditional)),
+            separator!(Semicolon),
         ],
     ),
     (Nonterminal::Priv, &[word!(Private), phrase!(Decls)]),
@@ -111,7 +118,7 @@ pub static PRODUCTIONS: [(Nonterminal, &[Symbol]); 186] = [
             IDENTIFIER,
             word!(Is),
             phrase!(TypeDef),
-            mark!(Semicolon, Ends(Conditional)),
+            separator!(Semicolon),
         ],
     ),
     (
@@ -121,7 +128,7 @@ pub static PRODUCTIONS: [(Nonterminal, &[Symbol]); 186] = [
             IDENTIFIER,
             word!(Is),
             phrase!(SubInd),
-            mark!(Semicolon, Ends(Conditional)),
+            separator!(Semicolon),
         ],
     ),
     (
@@ -131,19 +138,14 @@ pub static PRODUCTIONS: [(Nonterminal, &[Symbol]); 186] = [
             phrase!(Ids),
             mark!(Colon),
             phrase!(Obj),
-            mark!(Semicolon, Ends(Conditional)),
+            separator!(Semicolon),
         ],
     ),
     (Nonterminal::Decl, &[phrase!(Sub)]),
     (Nonterminal::Decl, &[phrase!(Pragma)]),
     (
         Nonterminal::Decl,
-        &[
-            word!(Use),
-            IDENTIFIER,
-            phrase!(Ids),
-            mark!(Semicolon, Ends(Conditional)),
-        ],
+        &[word!(Use), IDENTIFIER, phrase!(Ids), separator!(Semicolon)],
     ),
     (
         Nonterminal::TypeDef,
@@ -207,7 +209,7 @@ pub static PRODUCTIONS: [(Nonterminal, &[Symbol]); 186] = [
             phrase!(Ids),
             mark!(Colon),
             phrase!(SubInd),
-            mark!(Semicolon, Ends(Conditional)),
+            separator!(Semicolon),
         ],
     ),
     (Nonterminal::Comps, &[phrase!(Comp), phrase!(Comps)]),
@@ -225,15 +227,9 @@ pub static PRODUCTIONS: [(Nonterminal, &[Symbol]); 186] = [
     (Nonterminal::SubTail, &[]),
     (Nonterminal::Obj, &[word!(Constant), phrase!(Const)]),
     (Nonterminal::Obj, &[phrase!(SubInd), phrase!(Init)]),
-    (
-        Nonterminal::Const,
-        &[mark!(Assign, Ends(Conditional)), phrase!(Expr)],
-    ),
+    (Nonterminal::Const, &[separator!(Assign), phrase!(Expr)]),
     (Nonterminal::Const, &[phrase!(SubInd), phrase!(Init)]),
-    (
-        Nonterminal::Init,
-        &[mark!(Assign, Ends(Conditional)), phrase!(Expr)],
-    ),
+    (Nonterminal::Init, &[separator!(Assign), phrase!(Expr)]),
     (Nonterminal::Init, &[]),
     (
         Nonterminal::Sub,
@@ -264,11 +260,7 @@ pub static PRODUCTIONS: [(Nonterminal, &[Symbol]); 186] = [
     (Nonterminal::Params, &[]),
     (
         Nonterminal::ParMore,
-        &[
-            mark!(Semicolon, Ends(Conditional)),
-            phrase!(Param),
-            phrase!(ParMore),
-        ],
+        &[separator!(Semicolon), phrase!(Param), phrase!(ParMore)],
     ),
     (Nonterminal::ParMore, &[]),
     (
@@ -286,7 +278,7 @@ pub static PRODUCTIONS: [(Nonterminal, &[Symbol]); 186] = [
     (Nonterminal::Mode, &[]),
     (Nonterminal::InOut, &[word!(Out)]),
     (Nonterminal::InOut, &[]),
-    (Nonterminal::Body, &[mark!(Semicolon, Ends(Conditional))]),
+    (Nonterminal::Body, &[separator!(Semicolon)]),
     (
         Nonterminal::Body,
         &[
@@ -296,7 +288,7 @@ pub static PRODUCTIONS: [(Nonterminal, &[Symbol]); 186] = [
             phrase!(Stmts),
             word!(End),
             phrase!(EndId),
-            mark!(Semicolon, Ends(Conditional)),
+            separator!(Semicolon),
         ],
     ),
     (
@@ -310,18 +302,11 @@ pub static PRODUCTIONS: [(Nonterminal, &[Symbol]); 186] = [
     (Nonterminal::Asp, &[]),
     (
         Nonterminal::AspMore,
-        &[
-            mark!(Comma, Ends(Conditional)),
-            phrase!(Aspect),
-            phrase!(AspMore),
-        ],
+        &[separator!(Comma), phrase!(Aspect), phrase!(AspMore)],
     ),
     (Nonterminal::AspMore, &[]),
     (Nonterminal::Aspect, &[IDENTIFIER, phrase!(AspVal)]),
-    (
-        Nonterminal::AspVal,
-        &[mark!(Arrow, Ends(Conditional)), phrase!(Item)],
-    ),
+    (Nonterminal::AspVal, &[separator!(Arrow), phrase!(Item)]),
     (Nonterminal::AspVal, &[]),
     (
         Nonterminal::Pragma,
@@ -329,7 +314,7 @@ pub static PRODUCTIONS: [(Nonterminal, &[Symbol]); 186] = [
             word!(Pragma),
             IDENTIFIER,
             phrase!(PragArg),
-            mark!(Semicolon, Ends(Conditional)),
+            separator!(Semicolon),
         ],
     ),
     (Nonterminal::PragArg, &[OPENING, phrase!(Args), CLOSING]),
@@ -337,17 +322,10 @@ pub static PRODUCTIONS: [(Nonterminal, &[Symbol]); 186] = [
     (Nonterminal::Stmts, &[phrase!(Stmt), phrase!(StMore)]),
     (Nonterminal::StMore, &[phrase!(Stmt), phrase!(StMore)]),
     (Nonterminal::StMore, &[]),
+    (Nonterminal::Stmt, &[word!(Null), separator!(Semicolon)]),
     (
         Nonterminal::Stmt,
-        &[word!(Null), mark!(Semicolon, Ends(Conditional))],
-    ),
-    (
-        Nonterminal::Stmt,
-        &[
-            phrase!(Name),
-            phrase!(Act),
-            mark!(Semicolon, Ends(Conditional)),
-        ],
+        &[phrase!(Name), phrase!(Act), separator!(Semicolon)],
     ),
     (
         Nonterminal::Stmt,
@@ -360,7 +338,7 @@ pub static PRODUCTIONS: [(Nonterminal, &[Symbol]); 186] = [
             phrase!(Else),
             word!(End),
             word!(If, Closes),
-            mark!(Semicolon, Ends(Conditional)),
+            separator!(Semicolon),
         ],
     ),
     (
@@ -373,7 +351,7 @@ pub static PRODUCTIONS: [(Nonterminal, &[Symbol]); 186] = [
             phrase!(Whens),
             word!(End),
             word!(Case, Closes),
-            mark!(Semicolon, Ends(Conditional)),
+            separator!(Semicolon),
         ],
     ),
     (
@@ -384,30 +362,19 @@ pub static PRODUCTIONS: [(Nonterminal, &[Symbol]); 186] = [
             phrase!(Stmts),
             word!(End),
             word!(Loop, Closes),
-            mark!(Semicolon, Ends(Conditional)),
+            separator!(Semicolon),
         ],
     ),
     (
         Nonterminal::Stmt,
-        &[
-            word!(Exit),
-            phrase!(ExWhen),
-            mark!(Semicolon, Ends(Conditional)),
-        ],
+        &[word!(Exit), phrase!(ExWhen), separator!(Semicolon)],
     ),
     (
         Nonterminal::Stmt,
-        &[
-            word!(Return),
-            phrase!(RetVal),
-            mark!(Semicolon, Ends(Conditional)),
-        ],
+        &[word!(Return), phrase!(RetVal), separator!(Semicolon)],
     ),
     (Nonterminal::Stmt, &[phrase!(Pragma)]),
-    (
-        Nonterminal::Act,
-        &[mark!(Assign, Ends(Conditional)), phrase!(Expr)],
-    ),
+    (Nonterminal::Act, &[separator!(Assign), phrase!(Expr)]),
     (Nonterminal::Act, &[]),
     (
         Nonterminal::Elsifs,
@@ -428,7 +395,7 @@ pub static PRODUCTIONS: [(Nonterminal, &[Symbol]); 186] = [
             word!(When),
             phrase!(Choice),
             phrase!(Choices),
-            mark!(Arrow, Ends(Conditional)),
+            separator!(Arrow),
             phrase!(Stmts),
         ],
     ),
@@ -438,11 +405,7 @@ pub static PRODUCTIONS: [(Nonterminal, &[Symbol]); 186] = [
     (Nonterminal::Choice, &[phrase!(Range)]),
     (
         Nonterminal::Choices,
-        &[
-            mark!(Bar, Ends(Conditional)),
-            phrase!(Choice),
-            phrase!(Choices),
-        ],
+        &[separator!(Bar), phrase!(Choice), phrase!(Choices)],
     ),
     (Nonterminal::Choices, &[]),
     (Nonterminal::Head, &[word!(While), phrase!(Expr)]),
@@ -479,7 +442,7 @@ pub static PRODUCTIONS: [(Nonterminal, &[Symbol]); 186] = [
             IDENTIFIER,
             word!(In),
             phrase!(Range),
-            mark!(Arrow, Ends(Conditional)),
+            separator!(Arrow),
             phrase!(Expr),
         ],
     ),
@@ -515,20 +478,12 @@ pub static PRODUCTIONS: [(Nonterminal, &[Symbol]); 186] = [
     (Nonterminal::Args, &[phrase!(Arg), phrase!(ArgMore)]),
     (
         Nonterminal::ArgMore,
-        &[
-            mark!(Comma, Ends(Conditional)),
-            phrase!(Arg),
-            phrase!(ArgMore),
-        ],
+        &[separator!(Comma), phrase!(Arg), phrase!(ArgMore)],
     ),
     (Nonterminal::ArgMore, &[]),
     (
         Nonterminal::Arg,
-        &[
-            word!(Others),
-            mark!(Arrow, Ends(Conditional)),
-            phrase!(Item),
-        ],
+        &[word!(Others), separator!(Arrow), phrase!(Item)],
     ),
     (Nonterminal::Arg, &[phrase!(Cond), phrase!(ArgVal)]),
     (Nonterminal::Arg, &[phrase!(Simple), phrase!(ArgMid)]),
@@ -544,10 +499,7 @@ pub static PRODUCTIONS: [(Nonterminal, &[Symbol]); 186] = [
         Nonterminal::ArgMid,
         &[phrase!(RelTail), phrase!(Logic), phrase!(ArgVal)],
     ),
-    (
-        Nonterminal::ArgVal,
-        &[mark!(Arrow, Ends(Conditional)), phrase!(Item)],
-    ),
+    (Nonterminal::ArgVal, &[separator!(Arrow), phrase!(Item)]),
     (Nonterminal::ArgVal, &[]),
     (Nonterminal::Expr, &[phrase!(Rel), phrase!(Logic)]),
     (

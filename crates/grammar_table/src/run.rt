@@ -6,7 +6,7 @@ ghost use Rattle.grammar_table.specs.declared.symbols.Terminal.{Terminal};
 ghost use Rattle.grammar_table.specs.Answers.{Derives, GoesOn};
 ghost use Rattle.grammar_table.specs.Parses.{right_of};
 ghost use Rattle.grammar_table.specs.Productions.{productions};
-ghost use Rattle.grammar_table.specs.Runs.{Follows, Reached, Settles, and_then};
+ghost use Rattle.grammar_table.specs.Runs.{IsProgress, Reached, Settles, and_then};
 
 use crate::answers::{Derivation, NumberList, SyntaxFault};
 use crate::choices::{place, predict};
@@ -107,7 +107,7 @@ impl Run {
         ensures { IfOk result
             (λ p. (ts : List Terminal) (t : Terminal)
             → Reached (and_then ts (Some t)) ts self.old.numbers self.old.levels (Symbol.Token t effect ∷ self.old.stack)
-            → Follows p ts t self.new.numbers self.new.levels self.new.stack) }
+            → IsProgress p ts t self.new.numbers self.new.levels self.new.stack) }
     {
         self.levels.apply(effect)?;
         if self.levels.count() <= MOST_LEVELS {
@@ -123,7 +123,7 @@ impl Run {
         ensures { IfOk result
             (λ p. (ts : List Terminal)
             → Reached (map Some ts) ts self.old.numbers self.old.levels self.old.stack
-            → Follows p ts token self.new.numbers self.new.levels self.new.stack) }
+            → IsProgress p ts token self.new.numbers self.new.levels self.new.stack) }
     {
         if !self.settle(rows, Some(token))? {
             return Ok(Progress::Unexpected);
