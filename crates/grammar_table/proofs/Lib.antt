@@ -1,0 +1,10 @@
+pub mod Answering
+pub mod Checks
+pub mod Completions
+pub mod Fronts
+pub mod Laws
+pub mod Only
+pub mod Parsing
+pub mod Reaching
+pub mod Steps
+pub mod Weights

@@ -1,0 +1,20 @@
+//! The grammar of the profile as data, and the derivations of token lists.
+#![tactic(auto)]
+
+mod answers;
+mod choices;
+mod grammar;
+mod levels;
+mod productions;
+mod reading;
+mod run;
+mod stack;
+mod symbols;
+
+pub use answers::{Derivation, NumberList, Starved, SyntaxFault};
+pub use grammar::{Grammar, Production, right_of, spark_grammar};
+pub use reading::{derive, one_answer};
+pub use symbols::{Construct, Effect, Nonterminal, Symbol, Terminal};
+
+#[cfg(test)]
+mod tests;
