@@ -1,0 +1,13 @@
+//! From the bytes of a source file to its syntax tree, or to its first error.
+#![tactic(auto)]
+
+mod laws;
+mod reading;
+mod refusal;
+#[cfg(test)]
+mod tests;
+
+pub use grammar_table::Starved;
+pub use laws::one_answer;
+pub use reading::{place_of, read};
+pub use refusal::ReadRefusal;
