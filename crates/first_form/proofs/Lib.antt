@@ -1,9 +1,5 @@
-pub mod Different
-pub mod Lines
-pub mod Numbers
+pub mod Bounds
 pub mod Searches
-pub mod Steps
-pub mod Taken
-pub mod Unique
-pub mod Whole
-pub mod Words
+pub mod Each
+pub mod Kept
+pub mod InFile

@@ -1,4 +1,5 @@
+pub mod Names
 pub mod Form
-pub mod Identifiers
 pub mod Places
-pub mod Reads
+pub mod Spelled
+pub mod Tree

@@ -2,7 +2,7 @@
 
 ghost use Rattle.std.specs.Prelude.{◌≡◌};
 
-use ada_values::{NameList, NameText};
+use ada_values::{NameList, NameText, Place};
 use sqlite_items::Items;
 use std::alloc::AllocError;
 use typed_units::Relation;
@@ -10,24 +10,35 @@ use typed_units::Relation;
 /// A side of an assertion.
 #[derive(Debug, Drop)]
 pub enum Operand {
-    /// A number from 0 to 2147483647.
+    /// A number, from 0 to 2147483647 in a form.
     Number(u32),
     /// A name as it is written.
     Name(NameText),
 }
 
+/// An operand and the place of its only token.
+#[derive(Debug, Drop)]
+pub struct Placed {
+    pub place: Place,
+    pub operand: Operand,
+}
+
 /// `pragma Assert (LEFT RELATION RIGHT);`
 #[derive(Debug, Drop)]
 pub struct Assertion {
-    pub left: Operand,
+    /// The place of the pragma's first token.
+    pub place: Place,
+    pub left: Placed,
     pub relation: Relation,
-    pub right: Operand,
+    pub right: Placed,
 }
 
-/// Assertions in the order of their lines.
+/// Assertions in the order of the text.
 pub type AssertionList = Items<Assertion>;
 
 /// A procedure with `in` parameters of type Integer whose statements are assertions.
+///
+/// It is a form where `is_form` says so.
 #[derive(Debug, Drop)]
 pub struct FirstForm {
     pub name: NameText,
@@ -35,7 +46,7 @@ pub struct FirstForm {
     pub assertions: AssertionList,
 }
 
-/// Why no form was read.
+/// Why a file has no form.
 #[derive(Clone, Copy, Debug, PartialEq, Eq)]
 pub enum FormFault {
     /// The file isn't of the form.

@@ -1,16 +1,21 @@
-//! The reader of the first form of file: one procedure whose statements are assertions.
+//! The first form of file: one procedure whose statements are assertions.
 #![tactic(auto)]
 
+mod conditions;
 mod form;
-mod lists;
+mod laws;
+mod limits;
 mod names;
-mod parts;
-mod pieces;
 mod places;
-mod read;
+mod procedures;
+mod spelled;
 #[cfg(test)]
 mod tests;
+#[cfg(test)]
+mod tree_tests;
 
-pub use form::{Assertion, AssertionList, FirstForm, FormFault, Operand};
-pub use places::{first_unknown, places_are_right, position_of};
-pub use read::{forms_are_unique, read_form};
+pub use form::{Assertion, AssertionList, FirstForm, FormFault, Operand, Placed};
+pub use laws::{forms_are_forms, places_are_in_file};
+pub use limits::is_form;
+pub use places::{first_unknown, position_of};
+pub use procedures::form_of;

@@ -1,173 +1,113 @@
-//! Whole files by hand: which are of the form, what they hold, and where an unknown name stands.
+//! Forms by hand: which keep the limits, and where an unknown name stands.
 
-use crate::{FormFault, first_unknown, position_of, read_form};
-use ada_values::NameText;
+use crate::{Assertion, FirstForm, Operand, Placed, first_unknown, is_form, position_of};
+use ada_values::{NameList, NameText, Place};
+use sqlite_items::Items;
 use std::alloc::{AllocError, Global};
 use std::test::Fail;
+use typed_units::Relation;
 
-const SAME: &str =
-    "procedure Same (X : in Integer; Y : in Integer) is\nbegin\n   pragma Assert (X = Y);\n   pragma Assert (X = Y);\nend Same;\n";
+/// An operand as the tests write it.
+#[derive(Clone, Copy)]
+enum Side<'a> {
+    Num(u32),
+    Id(&'a str),
+}
 
-const GROUND: &str =
-    "procedure Ground (X : in Integer) is\nbegin\n   pragma Assert (2 < 3);\n   pragma Assert (3 < 2);\n   pragma Assert (X = 5);\nend Ground;\n";
+use Side::{Id, Num};
 
-const UNKNOWN: &str =
-    "procedure Same (X : in Integer; Y : in Integer) is\nbegin\n   pragma Assert (X = Z);\n   pragma Assert (X = Y);\nend Same;\n";
-
-/// Whether the bytes are of the form.
-fn reads(alloc: Global, bytes: &[u8]) -> Result<bool, AllocError> {
-    match read_form(alloc, bytes) {
-        Ok(_) => Ok(true),
-        Err(FormFault::NotBuilt) => Ok(false),
-        Err(FormFault::Starved) => Err(AllocError),
+fn place(line: u32, column: u32) -> Place {
+    Place {
+        file: 0,
+        line,
+        column,
     }
 }
 
-/// The place of the first unknown name.
-fn place(alloc: Global, bytes: &[u8]) -> Result<Option<(u32, u32)>, FormFault> {
-    let form = read_form(alloc, bytes)?;
-    Ok(first_unknown(&form))
+fn placed(alloc: Global, line: u32, column: u32, side: Side) -> Result<Placed, AllocError> {
+    let operand = match side {
+        Num(number) => Operand::Number(number),
+        Id(name) => Operand::Name(NameText::from_text(alloc, name)?),
+    };
+    Ok(Placed {
+        place: place(line, column),
+        operand,
+    })
 }
 
-/// A file with these parts.
-fn file(alloc: Global, name: &str, params: &str, lines: &str) -> Result<String, AllocError> {
-    format!(in alloc; "procedure {name} ({params}) is\nbegin\n{lines}end {name};\n")
+/// The assertion of two operands, at the columns 20 and 30 of a line.
+fn assertion(alloc: Global, line: u32, left: Side, right: Side) -> Result<Assertion, AllocError> {
+    Ok(Assertion {
+        place: place(line, 4),
+        left: placed(alloc, line, 20, left)?,
+        relation: Relation::Less,
+        right: placed(alloc, line, 30, right)?,
+    })
 }
 
-/// A file with this one assertion.
-fn asserts(alloc: Global, assertion: &str) -> Result<String, AllocError> {
-    format!(in alloc;
-        "procedure Main (P : in Integer) is\nbegin\n   pragma Assert ({assertion});\nend Main;\n"
-    )
-}
-
-#[test]
-fn whole_files(rt: HostRuntime) -> Result<(), Fail> {
-    let files = [
-        (SAME, true),
-        (GROUND, true),
-        (UNKNOWN, true),
-        ("", false),
-        ("\n", false),
-        (
-            "procedure P (A : in Integer) is\nbegin\n   pragma Assert (A = A);\nend P;\n",
-            true,
-        ),
-        (
-            "procedure P (A : in Integer) is\nbegin\n   pragma Assert (A = A);\nend P;",
-            false,
-        ),
-        (
-            "procedure P (A : in Integer) is\nbegin\n   pragma Assert (A = A);\nend P; \n",
-            false,
-        ),
-        (
-            "procedure P (A : in Integer) is\nbegin\n   pragma Assert (A = A);\nend P;\n\n",
-            false,
-        ),
-        (
-            "procedure P (A : in Integer) is\r\nbegin\r\n   pragma Assert (A = A);\r\nend P;\r\n",
-            false,
-        ),
-        (
-            " procedure P (A : in Integer) is\nbegin\n   pragma Assert (A = A);\nend P;\n",
-            false,
-        ),
-        (
-            "procedure P (A : in Integer) is\nbegin\n   pragma Assert (A = A);\nend p;\n",
-            false,
-        ),
-        (
-            "procedure P (A : in Integer) is\nbegin\n   pragma Assert (A = A);\nend Q;\n",
-            false,
-        ),
-        (
-            "Procedure P (A : in Integer) is\nbegin\n   pragma Assert (A = A);\nend P;\n",
-            false,
-        ),
-        (
-            "procedure P  (A : in Integer) is\nbegin\n   pragma Assert (A = A);\nend P;\n",
-            false,
-        ),
-        ("procedure P (A : in Integer) is\nbegin\nend P;\n", false),
-        (
-            "procedure P () is\nbegin\n   pragma Assert (1 = 1);\nend P;\n",
-            false,
-        ),
-        (
-            "procedure P is\nbegin\n   pragma Assert (1 = 1);\nend P;\n",
-            false,
-        ),
-        (
-            "procedure P (A : in Integer; ) is\nbegin\n   pragma Assert (1 = 1);\nend P;\n",
-            false,
-        ),
-        (
-            "procedure P (x : in Integer; X : in Integer) is\nbegin\n   pragma Assert (1 = 1);\nend P;\n",
-            false,
-        ),
-        (
-            "procedure P (P : in Integer) is\nbegin\n   pragma Assert (1 = 1);\nend P;\n",
-            true,
-        ),
-        (
-            "procedure P (A : in integer) is\nbegin\n   pragma Assert (1 = 1);\nend P;\n",
-            false,
-        ),
-        (
-            "procedure P (A : in Integer) is\nbegin\n   pragma Assert (1 = 1);\n   pragma Assert (1 = 1)\nend P;\n",
-            false,
-        ),
-        (
-            "procedure É (A : in Integer) is\nbegin\n   pragma Assert (1 = 1);\nend É;\n",
-            false,
-        ),
-    ];
-    for (text, want) in files {
-        assert_eq!(rt; reads(rt.alloc(), text.as_bytes())?, want, "{text}");
+fn names(alloc: Global, texts: &[&str]) -> Result<NameList, AllocError> {
+    let mut names = NameList::new(alloc);
+    for text in texts {
+        names.push(NameText::from_text(alloc, text)?)?;
     }
-    let mut high = Vec::from_slice(rt.alloc(), SAME.as_bytes())?;
-    high.push(200)?;
-    assert!(rt; !reads(rt.alloc(), high.as_slice())?);
-    Ok(())
+    Ok(names)
+}
+
+/// The form of assertions on the lines from 10.
+fn form(
+    alloc: Global,
+    name: &str,
+    params: &[&str],
+    sides: &[(Side, Side)],
+) -> Result<FirstForm, AllocError> {
+    let mut assertions = Items::new(alloc);
+    let mut line = 10;
+    for (left, right) in sides {
+        assertions.push(assertion(alloc, line, *left, *right)?)?;
+        if line < 1000 {
+            line += 1;
+        }
+    }
+    Ok(FirstForm {
+        name: NameText::from_text(alloc, name)?,
+        params: names(alloc, params)?,
+        assertions,
+    })
+}
+
+/// A name of so many bytes.
+fn long_name(alloc: Global, bytes: u32) -> Result<String, AllocError> {
+    let mut name = String::new(alloc);
+    for _ in 0..bytes {
+        name.push('n')?;
+    }
+    Ok(name)
 }
 
 #[test]
-fn names(rt: HostRuntime) -> Result<(), Fail> {
-    let cases = [
-        ("a", true),
-        ("A_1_b", true),
-        ("Long_Long_Integers", true),
-        ("a__b", false),
-        ("a_", false),
-        ("_a", false),
-        ("1a", false),
-        ("é", false),
-        ("a-b", false),
-        ("XOR", false),
-        ("Begin", false),
-        ("abort", false),
-        ("BOOLEAN", false),
-        ("integer", false),
-        ("Natural", false),
-        ("Positive", false),
-        ("long_long_integer", false),
-        ("True", false),
-        ("FALSE", false),
+fn names_and_counts(rt: HostRuntime) -> Result<(), Fail> {
+    let cases: [(&str, &[&str], bool); 11] = [
+        ("Main", &["X"], true),
+        ("X", &["X"], true),
+        ("Main", &["A", "B", "C", "D", "E", "F", "G", "H"], true),
+        (
+            "Main",
+            &["A", "B", "C", "D", "E", "F", "G", "H", "I"],
+            false,
+        ),
+        ("Main", &[], false),
+        ("Main", &["x", "Y", "X"], false),
+        ("Main", &["X", "X"], false),
+        ("Integer", &["X"], false),
+        ("Main", &["TRUE"], false),
+        ("Main", &["Long_Long_Integer"], false),
+        ("Main", &["Falsely"], true),
     ];
-    for (name, want) in cases {
-        let text = file(
-            rt.alloc(),
-            name,
-            "Q : in Integer",
-            "   pragma Assert (1 = 1);\n",
-        )?;
-        assert_eq!(rt; reads(rt.alloc(), text.as_bytes())?, want, "{name}");
-        let text = asserts(rt.alloc(), name)?;
-        assert!(rt; !reads(rt.alloc(), text.as_bytes())?);
-        let assertion = format!(in rt.alloc(); "1 = {name}")?;
-        let text = asserts(rt.alloc(), assertion.as_str())?;
-        assert_eq!(rt; reads(rt.alloc(), text.as_bytes())?, want, "{name}");
+    for (name, params, want) in cases {
+        let whole = form(rt.alloc(), name, params, &[(Num(0), Num(1))])?;
+        assert_eq!(rt; is_form(&whole), want, "{name}");
+        let empty = form(rt.alloc(), name, params, &[])?;
+        assert!(rt; !is_form(&empty), "{name}");
     }
     Ok(())
 }
@@ -175,106 +115,71 @@ fn names(rt: HostRuntime) -> Result<(), Fail> {
 #[test]
 fn operands(rt: HostRuntime) -> Result<(), Fail> {
     let cases = [
-        ("0 = 0", true),
-        ("P /= 10", true),
-        ("2147483647 < 1", true),
-        ("1 <= 2147483647", true),
-        ("1 > Q", true),
-        ("1 >= 1", true),
-        ("2147483648 = 1", false),
-        ("99999999999999999999 = 1", false),
-        ("007 = 1", false),
-        ("00 = 1", false),
-        ("+1 = 1", false),
-        ("1_0 = 1", false),
-        ("1 == 1", false),
-        ("1 =< 1", false),
-        ("1  = 1", false),
-        ("1=1", false),
-        ("Main = 1", false),
-        ("1 = MAIN", false),
-        ("", false),
+        ((Id("Other"), Num(1)), true),
+        ((Id("Natural"), Num(1)), false),
+        ((Num(1), Id("positive")), false),
+        ((Num(1), Id("mAIN")), false),
+        ((Id("Main"), Num(1)), false),
+        ((Num(2_147_483_647), Num(0)), true),
+        ((Num(2_147_483_648), Num(0)), false),
+        ((Num(0), Num(4_294_967_295)), false),
     ];
-    for (assertion, want) in cases {
-        let text = asserts(rt.alloc(), assertion)?;
-        assert_eq!(rt; reads(rt.alloc(), text.as_bytes())?, want, "{assertion}");
-    }
-    Ok(())
-}
-
-/// The text `first`, and `more` so many times.
-fn repeated(alloc: Global, first: &str, more: &str, times: u32) -> Result<String, AllocError> {
-    let mut text = String::from_str(alloc, first)?;
-    for _ in 0..times {
-        text.push_str(more)?;
-    }
-    Ok(text)
-}
-
-#[test]
-fn counts(rt: HostRuntime) -> Result<(), Fail> {
-    let line = "   pragma Assert (1 = 1);\n";
-    let eight =
-        "A : in Integer; B : in Integer; C : in Integer; D : in Integer; E : in Integer; F : in Integer; G : in Integer; H : in Integer";
-    let nine =
-        "A : in Integer; B : in Integer; C : in Integer; D : in Integer; E : in Integer; F : in Integer; G : in Integer; H : in Integer; I : in Integer";
-    for (params, want) in [(eight, true), (nine, false)] {
-        let text = file(rt.alloc(), "Main", params, line)?;
-        assert_eq!(rt; reads(rt.alloc(), text.as_bytes())?, want);
-    }
-    for (bytes, want) in [(99, true), (100, false)] {
-        let name = repeated(rt.alloc(), "N", "x", bytes)?;
-        let text = file(rt.alloc(), name.as_str(), "P : in Integer", line)?;
-        assert_eq!(rt; reads(rt.alloc(), text.as_bytes())?, want);
-    }
-    let long = repeated(rt.alloc(), "N", "x", 99)?;
-    let long = long.as_str();
-    let long_line = format!(in rt.alloc(); "   pragma Assert ({long} /= {long});\n")?;
-    for (lines, want) in [(499, true), (500, false)] {
-        let all = repeated(rt.alloc(), long_line.as_str(), long_line.as_str(), lines)?;
-        let text = file(rt.alloc(), "Main", "P : in Integer", all.as_str())?;
-        assert_eq!(rt; reads(rt.alloc(), text.as_bytes())?, want);
+    for (sides, want) in cases {
+        let form = form(rt.alloc(), "Main", &["X"], &[sides])?;
+        assert_eq!(rt; is_form(&form), want);
     }
     Ok(())
 }
 
 #[test]
-fn places(rt: HostRuntime) -> Result<(), Fail> {
-    let cases = [
-        (SAME, None),
-        (GROUND, None),
-        (UNKNOWN, Some((3, 23))),
+fn lengths(rt: HostRuntime) -> Result<(), Fail> {
+    for (bytes, want) in [(1, true), (100, true), (101, false)] {
+        let name = long_name(rt.alloc(), bytes)?;
+        let name = name.as_str();
+        let as_procedure = form(rt.alloc(), name, &["X"], &[(Num(1), Num(1))])?;
+        assert_eq!(rt; is_form(&as_procedure), want);
+        let as_param = form(rt.alloc(), "Main", &[name], &[(Num(1), Num(1))])?;
+        assert_eq!(rt; is_form(&as_param), want);
+        let as_operand = form(rt.alloc(), "Main", &["X"], &[(Id(name), Num(1))])?;
+        assert_eq!(rt; is_form(&as_operand), want);
+    }
+    let side = (Num(1), Num(1));
+    assert!(rt; is_form(&form(rt.alloc(), "Main", &["X"], &[side; 500])?));
+    assert!(rt; !is_form(&form(rt.alloc(), "Main", &["X"], &[side; 501])?));
+    Ok(())
+}
+
+#[test]
+fn unknown_names(rt: HostRuntime) -> Result<(), Fail> {
+    let cases: [(&[(Side, Side)], Option<(u32, u32)>); 5] = [
+        (&[(Id("a"), Num(7)), (Num(7), Id("B"))], None),
+        (&[(Id("A"), Id("C"))], Some((10, 30))),
+        (&[(Id("C"), Id("D"))], Some((10, 20))),
+        (&[(Num(1), Num(2)), (Id("Other"), Id("A"))], Some((11, 20))),
         (
-            "procedure P (A : in Integer) is\nbegin\n   pragma Assert (a = A);\n   pragma Assert (B = C);\nend P;\n",
-            Some((4, 19)),
-        ),
-        (
-            "procedure P (A : in Integer) is\nbegin\n   pragma Assert (2147483647 >= Other);\nend P;\n",
-            Some((3, 33)),
-        ),
-        (
-            "procedure P (A : in Integer) is\nbegin\n   pragma Assert (A >= 7);\n   pragma Assert (10 < Other);\nend P;\n",
-            Some((4, 24)),
+            &[(Id("A"), Id("B")), (Id("B"), Id("AB")), (Id("C"), Num(0))],
+            Some((11, 30)),
         ),
     ];
-    for (text, want) in cases {
-        let found = place(rt.alloc(), text.as_bytes()).map_err(|_| Fail::from(AllocError))?;
-        assert!(rt; found == want, "{text}");
+    for (sides, want) in cases {
+        let form = form(rt.alloc(), "Main", &["A", "B"], sides)?;
+        if !is_form(&form) {
+            panic!(rt; "no form");
+        }
+        assert!(rt; first_unknown(&form) == want);
     }
     Ok(())
 }
 
 #[test]
-fn fields(rt: HostRuntime) -> Result<(), Fail> {
-    let Ok(form) = read_form(rt.alloc(), SAME.as_bytes()) else {
-        panic!(rt; "no form");
-    };
-    assert!(rt; form.name.is(b"Same"));
-    assert_eq!(rt; form.params.len(), 2);
-    assert_eq!(rt; form.assertions.len(), 2);
+fn positions(rt: HostRuntime) -> Result<(), Fail> {
+    let params = names(rt.alloc(), &["X", "Y"])?;
+    if params.len() > 8 {
+        panic!(rt; "too many");
+    }
     for (name, want) in [("X", Some(0)), ("y", Some(1)), ("Z", None)] {
         let name = NameText::from_text(rt.alloc(), name)?;
-        assert!(rt; position_of(&form.params, &name) == want);
+        assert!(rt; position_of(&params, &name) == want);
     }
     Ok(())
 }

@@ -59,4 +59,4 @@ proved_row f t e row k h i p params globals n fit run =
 
 pub rows_hold : ProvedRowsHold
 rows_hold f row h e params globals n fit run =
-    proved_row f (input_tree (length f.params) 0 (tree_from f.params 3 f.assertions)) (tree_is f) row h.0 h.1 h.2 e params globals n fit run
+    proved_row f (input_tree (length f.params) 0 (tree_from f.params f.assertions)) (tree_is f) row h.0 h.1 h.2 e params globals n fit run

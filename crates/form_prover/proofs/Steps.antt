@@ -51,15 +51,15 @@ name_both relation.AtMost j k = refl
 name_both relation.Greater j k = refl
 name_both relation.AtLeast j k = refl
 
-computed_by : (ps : List (List ℕ)) (a : Assertion) (x y : Operand) → computed (compared_node ps a x y) ≡ static_of a.relation x y
-computed_by ps a (Number m) (Number n) = refl
-computed_by ps a (Number m) (Name y) = name_right a.relation m (unwrap_or (position_of ps y) 0)
-computed_by ps a (Name x) (Number n) = name_left a.relation (unwrap_or (position_of ps x) 0) n
-computed_by ps a (Name x) (Name y) = name_both a.relation (unwrap_or (position_of ps x) 0) (unwrap_or (position_of ps y) 0)
+computed_by : (ps : List (List ℕ)) (r : Relation) (x y : Operand) → computed (compared_node ps r x y) ≡ static_of r x y
+computed_by ps r (Number m) (Number n) = refl
+computed_by ps r (Number m) (Name y) = name_right r m (unwrap_or (position_of ps y) 0)
+computed_by ps r (Name x) (Number n) = name_left r (unwrap_or (position_of ps x) 0) n
+computed_by ps r (Name x) (Name y) = name_both r (unwrap_or (position_of ps x) 0) (unwrap_or (position_of ps y) 0)
 
 -- a condition computes to a truth value where it is static
 pub computed_static : (ps : List (List ℕ)) (a : Assertion) → computed (condition_node ps a) ≡ static_truth a
-computed_static ps a = computed_by ps a a.left a.right
+computed_static ps a = computed_by ps a.relation a.left.operand a.right.operand
 
 pub some_false_inputs : (n k : ℕ) → some_false (input_nodes n k) ≡ false
 some_false_inputs zero k = refl

@@ -128,7 +128,7 @@ pub fn condition(
     requires { length params.now < 2 ^ 32 }
     ensures { IfOk result (λ f. formula f ≡ condition_node params.now assertion.now) }
 {
-    match (&assertion.left, &assertion.right) {
+    match (&assertion.left.operand, &assertion.right.operand) {
         (Operand::Number(left), Operand::Number(right)) => {
             if are_related(assertion.relation, *left, *right) {
                 Ok(Formula::True)

@@ -25,7 +25,7 @@ pub fn has_equal(hypotheses: &FormulaList, conclusion: &Formula) -> bool
 pub fn truth_of(assertion: &Assertion) -> Option<bool>
     ensures { result ≡ static_truth assertion.now }
 {
-    match (&assertion.left, &assertion.right) {
+    match (&assertion.left.operand, &assertion.right.operand) {
         (Operand::Number(left), Operand::Number(right)) => {
             Some(are_related(assertion.relation, *left, *right))
         }

@@ -7,6 +7,7 @@ mod laws;
 mod rows;
 #[cfg(test)]
 mod tests;
+mod verdicts;
 
 pub use laws::proved_rows_hold;
 pub use rows::{Row, RowList, rows_of};

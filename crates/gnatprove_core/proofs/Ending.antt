@@ -1,16 +1,20 @@
 -- How a run ends.
-use Rattle.std.proofs.Common.{◌≡◌, ℕ, sym, subst, inl, inr, Bool, true, false, Option, Some, None, Result, Ok, Err, List}
-use Rattle.std.specs.Prelude.{codes, IfOk, if◌then◌else◌}
+use Rattle.std.proofs.Common.{◌≡◌, ◌<◌, ◌-◌, ◌^◌, ◌⊎◌, ℕ, sym, subst, length, inl, inr, Bool, true, false, Option, Some, None, Result, Ok, Err, List}
+use Rattle.std.specs.Prelude.{IfOk, if◌then◌else◌}
 use Rattle.std.specs.List.{list_all}
 use Rattle.std.specs.Io.KnownBytes.{append_known}
 use Rattle.keeper_io.specs.Maps.{Map}
+use Rattle.ada_syntax.specs.declared.units.SourceUnit.{SourceUnit}
+use Rattle.spark_reader.specs.declared.refusal.ReadRefusal.{ReadRefusal}
+use Rattle.spark_reader.specs.Reads.{Reads}
 use Rattle.first_form.specs.declared.form.FirstForm.{FirstForm}
+use Rattle.first_form.specs.Tree.{form_of}
 use Rattle.first_form.specs.Places.{first_unknown}
 use Rattle.gnatprove_core.specs.declared.status.Status.{Status}
 use Rattle.gnatprove_core.specs.declared.status.Status.TheVariants as status
 use Rattle.gnatprove_core.specs.declared.answer.Answer.{Answer}
 use Rattle.gnatprove_core.specs.Words.{file_of}
-use Rattle.gnatprove_core.specs.Answers.{rows_of, Refuses, AnswersForm, HasNoForm, AnswersBytes, AnswersFile, AnswersRead, AnswersNamed, Answers, Ends}
+use Rattle.gnatprove_core.specs.Answers.{rows_of, AnswersForm, AnswersTree, AnswersRefusal, AnswersBytes, AnswersFile, AnswersRead, AnswersNamed, Answers, Ends}
 
 -- an answer has one of the statuses that an answer can have
 abbrev pub IsWritten : Status → Type 0
@@ -29,9 +33,17 @@ form_is : (name : List ℕ) (f : FirstForm) (o : Option (ℕ × ℕ)) (s : Statu
 form_is name f (Some place) s text a = refused_is s a.0
 form_is name f None s text a = reported_is (list_all (λ r. r.proved) (rows_of f)) s a.0
 
+tree_is : (name : List ℕ) (o : Option FirstForm) (s : Status) (text : List ℕ) → AnswersTree name o s text → IsWritten s
+tree_is name None s text a = refused_is s a.0
+tree_is name (Some f) s text a = form_is name f (first_unknown f) s text a
+
+read_or_refused_is : (name bytes : List ℕ) (s : Status) (text : List ℕ)
+    → ((r : ReadRefusal) × AnswersRefusal name bytes r s text) ⊎ ((u : SourceUnit) × Reads bytes u × AnswersTree name (form_of bytes u) s text) → IsWritten s
+read_or_refused_is name bytes s text (inl a) = refused_is s a.1.1.0
+read_or_refused_is name bytes s text (inr a) = tree_is name (form_of bytes a.0) s text a.2
+
 bytes_is : (name bytes : List ℕ) (s : Status) (text : List ℕ) → AnswersBytes name bytes s text → IsWritten s
-bytes_is name bytes s text (inl a) = refused_is s a.1.0
-bytes_is name bytes s text (inr a) = form_is name a.0 (first_unknown a.0) s text a.2
+bytes_is name bytes s text a = read_or_refused_is name bytes s text a.1
 
 file_is : (name : List ℕ) (o : Option (List ℕ)) (s : Status) (text : List ℕ) → AnswersFile name o s text → IsWritten s
 file_is name None s text a = refused_is s a.0
@@ -56,8 +68,21 @@ pub ends_whole : (told : Option Map) (words : List (List ℕ)) (s : Status) (tex
     → after ≡ append_known before text → Ends told words s before after
 ends_whole told words s text before after a e = written_ends told words s text before after (named_is told (file_of words) s text a) a e
 
--- a file without a form is refused
-pub no_form_answer : {E : Type 0} (name bytes : List ℕ) (r : Result Answer E) → HasNoForm bytes
-    → IfOk r (λ a. Refuses name 1 1 (codes "NotBuilt") a.status a.text) → IfOk r (λ a. AnswersBytes name bytes a.status a.text)
-no_form_answer name bytes (Ok a) h r = inl (h, r)
-no_form_answer name bytes (Err e) h r = tt
+-- bytes that are refused
+pub refusal_answer : {E : Type 0} (name bytes : List ℕ) (reason : ReadRefusal) (r : Result Answer E) → length bytes < 2 ^ 32 - 1
+    → IfOk r (λ a. AnswersRefusal name bytes reason a.status a.text) → IfOk r (λ a. AnswersBytes name bytes a.status a.text)
+refusal_answer name bytes reason (Ok a) short w = (short, inl (reason, w))
+refusal_answer name bytes reason (Err e) short w = tt
+
+-- bytes that are the text of a tree
+pub tree_answer : {E : Type 0} (name bytes : List ℕ) (u : SourceUnit) (r : Result Answer E) → length bytes < 2 ^ 32 - 1 → Reads bytes u
+    → IfOk r (λ a. AnswersTree name (form_of bytes u) a.status a.text) → IfOk r (λ a. AnswersBytes name bytes a.status a.text)
+tree_answer name bytes u (Ok a) short h w = (short, inr (u, h, w))
+tree_answer name bytes u (Err e) short h w = tt
+
+-- bytes that the keeper holds
+pub file_answer : {E : Type 0} (name : List ℕ) (found : Option (List ℕ)) (bytes slice : List ℕ) (r : Result Answer E) → found ≡ Some bytes → slice ≡ bytes
+    → IfOk r (λ a. AnswersBytes name slice a.status a.text) → IfOk r (λ a. AnswersFile name found a.status a.text)
+file_answer name found bytes slice (Ok a) e s w =
+    subst (λ (o : Option (List ℕ)). AnswersFile name o a.status a.text) (sym e) (subst (λ (x : List ℕ). AnswersBytes name x a.status a.text) s w)
+file_answer name found bytes slice (Err f) e s w = tt

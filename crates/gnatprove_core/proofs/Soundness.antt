@@ -1,5 +1,5 @@
 -- A line that calls a check proved is the row of a site at which no run fails first.
-use Rattle.std.proofs.Common.{◌≡◌, ◌≢◌, ℕ, zero, suc, ◌<◌, ◌^◌, refl, ap, sym, subst, ◌∙◌, ◌⊎◌, inl, inr, Bool, true, false, Option, Some, None, List, [], ◌∷◌, ◌++◌, ◌+◌, map, take, length, arith, lit<, append_assoc}
+use Rattle.std.proofs.Common.{◌≡◌, ◌≢◌, ℕ, zero, suc, ◌<◌, ◌-◌, ◌^◌, refl, ap, sym, subst, ◌∙◌, ◌⊎◌, inl, inr, Bool, true, false, Option, Some, None, List, [], ◌∷◌, ◌++◌, ◌+◌, map, take, length, arith, append_assoc}
 use Rattle.std.proofs.lemmas.List.{append_cancel_left}
 use Rattle.std.specs.Prelude.{not, ◌&&◌, ◌==◌, nat_le, codes, slice_index_or, Contains, All, if◌then◌else◌}
 use Rattle.std.specs.List.{list_all}
@@ -9,17 +9,23 @@ use Rattle.typed_units.specs.declared.checks.CheckKind.{CheckKind}
 use Rattle.typed_units.specs.declared.checks.SiteKey.{SiteKey}
 use Rattle.ada_semantics.specs.Plain.{fails}
 use Rattle.keeper_io.specs.Maps.{Map, entry_of}
+use Rattle.ada_values.specs.declared.place.Place.{Place}
+use Rattle.ada_syntax.specs.declared.units.SourceUnit.{SourceUnit}
+use Rattle.spark_reader.specs.declared.refusal.ReadRefusal.{ReadRefusal}
+use Rattle.spark_reader.specs.Reads.{Reads}
+use Rattle.spark_reader.proofs.Only.{one_tree, not_both}
 use Rattle.first_form.specs.declared.form.FirstForm.{FirstForm}
-use Rattle.first_form.specs.Form.{IsForm}
 use Rattle.first_form.specs.declared.form.Assertion.{Assertion}
 use Rattle.first_form.specs.Places.{first_unknown}
-use Rattle.first_form.proofs.Whole.{same_form}
+use Rattle.first_form.specs.Spelled.{IsInFile}
+use Rattle.first_form.specs.Tree.{form_of}
+use Rattle.first_form.proofs.InFile.{places_are_in_file}
+use Rattle.form_prover.specs.declared.verdicts.Verdict.{Verdict}
 use Rattle.form_prover.specs.declared.rows.Row as prover
 use Rattle.logic_terms.specs.Node.{Node}
 use Rattle.ada_semantics.specs.Outcome.{site}
 use Rattle.typed_units.specs.declared.checks.CheckKind.TheVariants as kind
-use Rattle.form_prover.specs.Program.{place_in, left_column}
-use Rattle.form_prover.specs.Formulas.{condition_node, input_nodes, rows_after}
+use Rattle.form_prover.specs.Formulas.{condition_node, input_nodes, row_among, verdicts_on}
 use Rattle.form_prover.proofs.Exact.{one_worker_is}
 use Rattle.form_prover.proofs.Sound.{rows_hold}
 use Rattle.gnat_report.specs.declared.rows.Row.{Row}
@@ -34,7 +40,7 @@ use Rattle.gnatprove_core.specs.declared.status.Status.{Status}
 use Rattle.gnatprove_core.specs.declared.status.Status.TheVariants as status
 use Rattle.gnatprove_core.specs.Words.{is_file_byte, is_file_name, file_of}
 use Rattle.gnatprove_core.specs.Texts.{read_fault_text}
-use Rattle.gnatprove_core.specs.Answers.{row_status, row_in, rows_of, AnswersForm, AnswersBytes, AnswersFile, AnswersRead, AnswersNamed, Answers, Ends}
+use Rattle.gnatprove_core.specs.Answers.{row_status, row_in, rows_of, Reports, AnswersForm, AnswersTree, AnswersRefusal, AnswersBytes, AnswersFile, AnswersRead, AnswersNamed, Answers, Ends}
 use Rattle.gnatprove_core.specs.Sound.{Accepted, CallsProved, NeverFailsAt, IsSound}
 
 -- ---- the name of a file
@@ -114,54 +120,58 @@ append-nil : (xs : List ℕ) → xs ++ [] ≡ xs
 append-nil [] = refl
 append-nil (x ∷ xs) = ap (λ (ys : List ℕ). x ∷ ys) (append-nil xs)
 
--- the sites of the rows stand in the one file, on lines from the third on
-pub record Placed (r : prover.Row) : Type 0 where
-  pub line : ℕ
-  pub low : line < 1000
-  pub site_is : r.site ≡ site (place_in line left_column) kind.Assert
+-- pragmas and operands stand in the one file
+abbrev pub AreInFile : List Assertion → Type 0
+AreInFile as' = All (λ a. IsInFile a.place × IsInFile a.left.place × IsInFile a.right.place) as'
 
-placed_after : (ps : List (List ℕ)) (hs : List Node) (l : ℕ) (as' : List Assertion) → l + length as' < 1000 → (k : ℕ) (r : prover.Row)
-    → k < length (rows_after ps hs l as') → slice_index_or (rows_after ps hs l as') k r ≡ r → Placed r
-placed_after ps hs l [] h k r i e = absurd (omega arith)
-placed_after ps hs l (a ∷ as') h zero r i e =
-    record { line = l; low = omega arith; site_is = ap (λ (x : prover.Row). x.site) (sym e) }
-placed_after ps hs l (a ∷ as') h (suc k) r i e =
-    placed_after ps (hs ++ condition_node ps a ∷ []) (suc l) as' (omega arith) k r (omega arith) e
+-- a site of an assertion in the one file
+pub record Placed (c : SiteKey) : Type 0 where
+  pub at : Place
+  pub there : IsInFile at
+  pub site_is : c ≡ site at kind.Assert
 
-row_placed : (f : FirstForm) → IsForm f → (k : ℕ) (r : prover.Row) → k < length (rows_of f) → slice_index_or (rows_of f) k r ≡ r → Placed r
-row_placed f form k r h e =
-    let few = form.limits.few_assertions in
-    placed_after f.params (input_nodes (length f.params) 0) 3 f.assertions (omega (arith, few)) k r
-    (subst (λ (rs : List prover.Row). k < length rs) (one_worker_is f) h) (subst (λ (rs : List prover.Row). slice_index_or rs k r ≡ r) (one_worker_is f) e)
+verdict_placed : (ps : List (List ℕ)) (hs : List Node) (as' : List Assertion) → AreInFile as' → (k : ℕ) (v : Verdict)
+    → k < length (verdicts_on ps hs as') → slice_index_or (verdicts_on ps hs as') k v ≡ v → Placed v.site
+verdict_placed ps hs [] h k v i e = absurd (omega arith)
+verdict_placed ps hs (a ∷ as') h zero v i e =
+    let within : zero < suc (length as') = omega arith in
+    record { at = a.left.place; there = (h zero a within).1; site_is = ap (λ (x : Verdict). x.site) (sym e) }
+verdict_placed ps hs (a ∷ as') h (suc k) v i e =
+    verdict_placed ps (hs ++ condition_node ps a ∷ []) as' (λ j d l. h (suc j) d (omega (arith, l))) k v (omega (arith, i)) e
 
-is_place : (r : prover.Row) → Placed r → IsPlace r.site.place
-is_place r p = record {
-  line = let e = ap (λ (c : SiteKey). c.place.line) p.site_is in let l = p.low in rw e (lower l);
-  column = let e = ap (λ (c : SiteKey). c.place.column) p.site_is in rw e (lit< tt);
+row_placed : (f : FirstForm) → AreInFile f.assertions → (k : ℕ) (r : prover.Row) → k < length (rows_of f) → slice_index_or (rows_of f) k r ≡ r → Placed r.site
+row_placed f inside k r h e =
+    let hs = input_nodes (length f.params) 0 in
+    let vs = verdicts_on f.params hs f.assertions in
+    let m = made (row_among vs) vs k r (subst (λ (rs : List prover.Row). k < length rs) (one_worker_is f) h) (subst (λ (rs : List prover.Row). slice_index_or rs k r ≡ r) (one_worker_is f) e) in
+    let p = verdict_placed f.params hs f.assertions inside k m.from m.within m.there in
+    record { at = p.at; there = p.there; site_is = ap (λ (x : prover.Row). x.site) (sym m.gives) ∙ p.site_is }
+
+is_place : (c : SiteKey) → Placed c → IsPlace c.place
+is_place c p = record {
+  line = let e = ap (λ (d : SiteKey). d.place.line) p.site_is in let l = p.there.line in rw e l;
+  column = let e = ap (λ (d : SiteKey). d.place.column) p.site_is in let l = p.there.column in rw e l;
 }
-  where
-    lower : {n : ℕ} → n < 1000 → n < 2 ^ 32
-    lower h = omega arith
 
-all_rows : (name : List ℕ) → IsRowName name → (f : FirstForm) → IsForm f → All IsRow (map (row_in name) (rows_of f))
-all_rows name n f form k d h =
+all_rows : (name : List ℕ) → IsRowName name → (f : FirstForm) → AreInFile f.assertions → All IsRow (map (row_in name) (rows_of f))
+all_rows name n f inside k d h =
     let m = made (row_in name) (rows_of f) k (slice_index_or (map (row_in name) (rows_of f)) k d) h (same_default (map (row_in name) (rows_of f)) k d h) in
-    subst (λ (x : Row). IsRow x) m.gives (record { name = n; place = is_place m.from (row_placed f form k m.from m.within m.there) })
+    subst (λ (x : Row). IsRow x) m.gives (record { name = n; place = is_place m.from.site (row_placed f inside k m.from m.within m.there) })
 
 -- ---- a report
 
-report_sound : (name : List ℕ) → IsRowName name → (f : FirstForm) → IsForm f → (full : List ℕ) → full ≡ report_text_of (map (row_in name) (rows_of f))
+report_sound : (name : List ℕ) → IsRowName name → (f : FirstForm) → AreInFile f.assertions → (full : List ℕ) → full ≡ report_text_of (map (row_in name) (rows_of f))
     → (k : ℕ) (c : SiteKey) → c.place.file ≡ 0 → IsPlace c.place → CallsProved (take k full) name c → NeverFailsAt f c
-report_sound name n f form full e k c z place h params globals budget fit run =
+report_sound name n f inside full e k c z place h params globals budget fit run =
     let rows = map (row_in name) (rows_of f) in
     let line : Row = record { name = name; key = c; status = row.Proved } in
-    let a = lines_read_back rows line k (all_rows name n f form) (record { name = n; place = place })
+    let a = lines_read_back rows line k (all_rows name n f inside) (record { name = n; place = place })
     (subst (λ (t : List ℕ). Contains (whole_lines (take k t)) (row_line line)) e h) in
     let m = made (row_in name) (rows_of f) a.0 a.1 a.2 a.3 in
     let said = a.4 in
-    let there = row_placed f form a.0 m.from m.within m.there in
+    let there = row_placed f inside a.0 m.from m.within m.there in
     let key : m.from.site ≡ a.1.key = ap (λ (x : Row). x.key) m.gives in
-    let file : m.from.site.place.file ≡ 0 = ap (λ (s : SiteKey). s.place.file) there.site_is in
+    let file : m.from.site.place.file ≡ 0 = ap (λ (s : SiteKey). s.place.file) there.site_is ∙ there.there.file in
     let same : m.from.site ≡ c = same_site_key m.from.site c (file ∙ sym z)
     (ap (λ (s : SiteKey). s.place.line) key ∙ said.line) (ap (λ (s : SiteKey). s.place.column) key ∙ said.column) (ap (λ (s : SiteKey). s.kind) key ∙ said.kind) in
     let proved : m.from.proved ≡ true = status_proved m.from.proved (ap (λ (x : Row). x.status) m.gives ∙ said.status) in
@@ -195,14 +205,19 @@ no_row_in_fault name n k r i h =
 
 -- ---- the answer
 
+tree_sound : (name bytes : List ℕ) → IsRowName name → length bytes < 2 ^ 32 - 1 → (f : FirstForm) → Accepted bytes f → (s : Status) (full : List ℕ)
+    → ((r : ReadRefusal) × AnswersRefusal name bytes r s full) ⊎ ((u : SourceUnit) × Reads bytes u × AnswersTree name (form_of bytes u) s full)
+    → (k : ℕ) (c : SiteKey) → c.place.file ≡ 0 → IsPlace c.place → CallsProved (take k full) name c → NeverFailsAt f c
+tree_sound name bytes n short f a s full (inl w) k c z place h = absurd (not_both bytes a.0 w.0 a.1 w.1.0)
+tree_sound name bytes n short f a s full (inr w) k c z place h =
+    let form : form_of bytes w.0 ≡ Some f = ap (form_of bytes) (one_tree bytes w.0 a.0 w.1 a.1) ∙ a.2 in
+    let answers : AnswersForm name f (first_unknown f) s full = subst (λ (o : Option FirstForm). AnswersTree name o s full) form w.2 in
+    let reports : Reports name f s full = subst (λ (o : Option (ℕ × ℕ)). AnswersForm name f o s full) a.3 answers in
+    report_sound name n f (places_are_in_file bytes a.0 f short a.2) full reports.1 k c z place h
+
 form_sound : (name bytes : List ℕ) → IsRowName name → (f : FirstForm) → Accepted bytes f → (s : Status) (full : List ℕ) → AnswersBytes name bytes s full
     → (k : ℕ) (c : SiteKey) → c.place.file ≡ 0 → IsPlace c.place → CallsProved (take k full) name c → NeverFailsAt f c
-form_sound name bytes n f a s full (inl w) k c z place h = absurd (w.0 f a.0.0 a.0.1)
-form_sound name bytes n f a s full (inr w) k c z place h =
-    let same : w.0 ≡ f = same_form w.0 f w.1.0 a.0.0 (sym w.1.1 ∙ a.0.1) in
-    let known : first_unknown w.0 ≡ None = ap first_unknown same ∙ a.1 in
-    let reports = subst (λ (o : Option (ℕ × ℕ)). AnswersForm name w.0 o s full) known w.2 in
-    report_sound name n f a.0.0 full (reports.1 ∙ ap (λ (g : FirstForm). report_text_of (map (row_in name) (rows_of g))) same) k c z place h
+form_sound name bytes n f a s full w k c z place h = tree_sound name bytes n w.0 f a s full w.1 k c z place h
 
 found_sound : (name bytes : List ℕ) → IsRowName name → (f : FirstForm) → Accepted bytes f → (o : Option (List ℕ)) → o ≡ Some bytes → (s : Status) (full : List ℕ)
     → AnswersFile name o s full → (k : ℕ) (c : SiteKey) → c.place.file ≡ 0 → IsPlace c.place → CallsProved (take k full) name c → NeverFailsAt f c

@@ -1,11 +1,20 @@
 -- What the program answers: a status, and the text that it writes.
-use Rattle.std.specs.Prelude.{◌≡◌, ℕ, Bool, true, false, ◌⊎◌, Option, Some, None, List, map, codes, if◌then◌else◌}
+use Rattle.std.specs.Prelude.{◌≡◌, ◌<◌, ◌-◌, ◌^◌, ℕ, Bool, true, false, ◌⊎◌, Option, Some, None, List, [], map, length, codes, if◌then◌else◌}
 use Rattle.std.specs.List.{list_all}
 use Rattle.std.specs.Io.KnownBytes.{append_known}
 use Rattle.keeper_io.specs.Maps.{Map, Holds}
 use Rattle.keeper_io.specs.Pieces.{AddsPart}
+use Rattle.ada_text.specs.declared.token.LexFault.{LexFault}
+use Rattle.ada_text.specs.declared.token.LexFault.TheVariants as lex
+use Rattle.ada_text.specs.Places.{line_after, column_after, counted_before}
+use Rattle.grammar_table.specs.declared.answers.SyntaxFault.{SyntaxFault}
+use Rattle.grammar_table.specs.declared.answers.SyntaxFault.TheVariants as syntax
+use Rattle.ada_syntax.specs.declared.units.SourceUnit.{SourceUnit}
+use Rattle.spark_reader.specs.declared.refusal.ReadRefusal.{ReadRefusal}
+use Rattle.spark_reader.specs.declared.refusal.ReadRefusal.TheVariants as refusal
+use Rattle.spark_reader.specs.Reads.{Reads, Refuses as RefusesText, place_of}
 use Rattle.first_form.specs.declared.form.FirstForm.{FirstForm}
-use Rattle.first_form.specs.Form.{IsForm, text_of}
+use Rattle.first_form.specs.Tree.{form_of}
 use Rattle.first_form.specs.Places.{first_unknown}
 use Rattle.form_prover.specs.declared.rows.Row as prover
 use Rattle.form_prover.specs.Program.{procedure_of, program_of}
@@ -50,18 +59,39 @@ abbrev pub AnswersForm : List ℕ → FirstForm → Option (ℕ × ℕ) → Stat
 AnswersForm name f (Some place) status text = Refuses name place.0 place.1 (codes "UnknownName") status text
 AnswersForm name f None status text = Reports name f status text
 
--- the bytes are the text of no form
-abbrev pub HasNoForm : List ℕ → Type 0
-HasNoForm bytes = (f : FirstForm) → IsForm f → bytes ≡ text_of f → ⊥
+-- a file that isn't of the form is refused at its start
+abbrev pub AnswersTree : List ℕ → Option FirstForm → Status → List ℕ → Type 0
+AnswersTree name None status text = Refuses name 1 1 (codes "NotBuilt") status text
+AnswersTree name (Some f) status text = AnswersForm name f (first_unknown f) status text
 
--- the bytes are the text of this form
-abbrev pub HasForm : List ℕ → FirstForm → Type 0
-HasForm bytes f = IsForm f × (bytes ≡ text_of f)
+abbrev pub lex_code : LexFault → List ℕ
+lex_code (lex.BadByte at) = codes "BadByte"
+lex_code (lex.BadNumber at) = codes "BadNumber"
+lex_code (lex.TooWide at) = codes "TooWide"
+lex_code lex.Starved = []
 
+abbrev pub syntax_code : SyntaxFault → List ℕ
+syntax_code (syntax.Unexpected k) = codes "Unexpected"
+syntax_code (syntax.TooDeep k) = codes "TooDeep"
+syntax_code syntax.Starved = []
+
+abbrev pub code_of : ReadRefusal → List ℕ
+code_of (refusal.Lex f) = lex_code f
+code_of (refusal.Syntax f) = syntax_code f
+code_of refusal.Starved = []
+
+-- the first error of the bytes, at the line and the column of its place
+abbrev pub AnswersRefusal : List ℕ → List ℕ → ReadRefusal → Status → List ℕ → Type 0
+AnswersRefusal name bytes r status text =
+    let front = counted_before bytes (place_of bytes r) in
+    RefusesText bytes r × Refuses name (line_after front) (column_after front) (code_of r) status text
+
+-- the bytes are refused, or they are the text of a tree; a file of 2 ** 32 - 1 bytes or more is answered as without memory
 abbrev pub AnswersBytes : List ℕ → List ℕ → Status → List ℕ → Type 0
 AnswersBytes name bytes status text =
-    (HasNoForm bytes × Refuses name 1 1 (codes "NotBuilt") status text)
-    ⊎ ((f : FirstForm) × HasForm bytes f × AnswersForm name f (first_unknown f) status text)
+    (length bytes < 2 ^ 32 - 1)
+    × (((r : ReadRefusal) × AnswersRefusal name bytes r status text)
+    ⊎ ((u : SourceUnit) × Reads bytes u × AnswersTree name (form_of bytes u) status text))
 
 abbrev pub AnswersFile : List ℕ → Option (List ℕ) → Status → List ℕ → Type 0
 AnswersFile name None status text = (status ≡ Refused) × (text ≡ no_file_text name)

@@ -4,18 +4,20 @@ use Rattle.ada_values.specs.Value.{Val}
 use Rattle.typed_units.specs.declared.checks.SiteKey.{SiteKey}
 use Rattle.ada_semantics.specs.Plain.{plain, fails, inputs_fit}
 use Rattle.keeper_io.specs.Maps.{Map, entry_of}
+use Rattle.ada_syntax.specs.declared.units.SourceUnit.{SourceUnit}
+use Rattle.spark_reader.specs.Reads.{Reads}
 use Rattle.first_form.specs.declared.form.FirstForm.{FirstForm}
+use Rattle.first_form.specs.Tree.{form_of}
 use Rattle.first_form.specs.Places.{first_unknown}
 use Rattle.form_prover.specs.Program.{procedure_of, program_of}
 use Rattle.gnat_report.specs.declared.rows.RowStatus.TheVariants as row
 use Rattle.gnat_report.specs.Text.{row_line}
 use Rattle.gnat_report.specs.Reading.{whole_lines, IsPlace}
 use Rattle.gnatprove_core.specs.Words.{file_of}
-use Rattle.gnatprove_core.specs.Answers.{HasForm}
 
--- the file holds a form all of whose names are known
+-- the bytes are the text of a tree that is of the form, and all names of the form are known
 abbrev pub Accepted : List ℕ → FirstForm → Type 0
-Accepted bytes f = HasForm bytes f × (first_unknown f ≡ None)
+Accepted bytes f = (u : SourceUnit) × Reads bytes u × (form_of bytes u ≡ Some f) × (first_unknown f ≡ None)
 
 -- a whole line of the text calls the check at this site proved
 abbrev pub CallsProved : List ℕ → List ℕ → SiteKey → Type 0

@@ -1,21 +1,30 @@
 //! The answer to the words.
 
-ghost use Rattle.std.specs.Prelude.{◌≡◌, IfOk, OnOk, IsErrOf, None};
+ghost use Rattle.std.specs.Prelude.{◌≡◌, ◌<◌, ◌-◌, ◌^◌, IfOk, None, length};
 ghost use Rattle.keeper_io.specs.Causes.{Rose};
+ghost use Rattle.spark_reader.specs.Reads.{Refuses as RefusesText};
 ghost use Rattle.first_form.specs.Form.{IsForm};
 ghost use Rattle.first_form.specs.Places.{first_unknown};
+ghost use Rattle.first_form.specs.Tree.{form_of};
 ghost use Rattle.gnatprove_core.specs.Texts.{read_fault_text};
-ghost use Rattle.gnatprove_core.specs.Answers.{AnswersForm, AnswersBytes, AnswersFile, AnswersRead, Answers, Refuses};
+ghost use Rattle.gnatprove_core.specs.Answers.{AnswersForm, AnswersTree, AnswersRefusal, AnswersBytes, AnswersFile, Answers, Refuses, code_of};
 
 use crate::report::report;
 use crate::status::Status;
 use crate::texts::{error_text, no_file_text, read_fault_text, usage_text};
 use crate::words::file_of;
+use ada_text::{LexFault, line_col};
+use ada_tree::SourceUnit;
 use ada_values::{ByteList, NameText, WordList};
-use first_form::{FirstForm, FormFault, first_unknown, read_form};
+use first_form::{FirstForm, FormFault, first_unknown, form_of};
+use grammar_table::SyntaxFault;
 use keeper_io::{KeepFault, Keeper};
 use logic_terms::Starved;
+use spark_reader::{ReadRefusal, place_of, read};
 use std::alloc::Global;
+
+/// A file of so many bytes, or of more, is answered as one for which there is no memory.
+const TOO_LONG: usize = (1 << 32) - 1;
 
 /// A status, and the text that is to be written.
 #[derive(Drop)]
@@ -52,14 +61,66 @@ fn answer_form(alloc: Global, name: &NameText, form: &FirstForm) -> Result<Answe
     }
 }
 
-/// The answer to a file's bytes.
-fn answer_bytes(alloc: Global, name: &NameText, bytes: &[u8]) -> Result<Answer, Starved>
-    ensures { IfOk result (λ answer. AnswersBytes name.now bytes.now answer.status answer.text) }
+/// The code of a refusal.
+fn code_of(refusal: ReadRefusal) -> &'static str
+    ensures { result.now ≡ code_of refusal }
 {
-    match read_form(alloc, bytes) {
+    match refusal {
+        ReadRefusal::Lex(LexFault::BadByte(_)) => "BadByte",
+        ReadRefusal::Lex(LexFault::BadNumber(_)) => "BadNumber",
+        ReadRefusal::Lex(LexFault::TooWide(_)) => "TooWide",
+        ReadRefusal::Syntax(SyntaxFault::Unexpected(_)) => "Unexpected",
+        ReadRefusal::Syntax(SyntaxFault::TooDeep(_)) => "TooDeep",
+        _ => "",
+    }
+}
+
+/// The answer to bytes that aren't read.
+fn answer_refusal(
+    alloc: Global,
+    name: &NameText,
+    bytes: &[u8],
+    reason: ReadRefusal,
+) -> Result<Answer, Starved>
+    requires short { length bytes.now < 2 ^ 32 - 1 }
+    requires refused { RefusesText bytes.now reason }
+    ensures { IfOk result (λ answer. AnswersRefusal name.now bytes.now reason answer.status answer.text) }
+{
+    let Ok(at) = place_of(alloc, bytes, reason) else {
+        return Err(Starved);
+    };
+    let (line, column) = line_col(bytes, at);
+    refusal(alloc, name, line, column, code_of(reason))
+}
+
+/// The answer to a tree.
+fn answer_tree(
+    alloc: Global,
+    name: &NameText,
+    bytes: &[u8],
+    unit: &SourceUnit,
+) -> Result<Answer, Starved>
+    requires { length bytes.now < 2 ^ 32 - 1 }
+    ensures { IfOk result (λ answer. AnswersTree name.now (form_of bytes.now unit.now) answer.status answer.text) }
+{
+    match form_of(alloc, bytes, unit) {
         Ok(form) => answer_form(alloc, name, &form),
         Err(FormFault::NotBuilt) => refusal(alloc, name, 1, 1, "NotBuilt"),
         Err(FormFault::Starved) => Err(Starved),
+    }
+}
+
+/// The answer to a file's bytes, of which there are fewer than 2^32 - 1.
+fn answer_bytes(alloc: Global, name: &NameText, bytes: &[u8]) -> Result<Answer, Starved>
+    ensures { IfOk result (λ answer. AnswersBytes name.now bytes.now answer.status answer.text) }
+{
+    if bytes.len() >= TOO_LONG {
+        return Err(Starved);
+    }
+    match read(alloc, bytes) {
+        Ok(unit) => answer_tree(alloc, name, bytes, &unit),
+        Err(ReadRefusal::Starved) => Err(Starved),
+        Err(reason) => answer_refusal(alloc, name, bytes, reason),
     }
 }
 

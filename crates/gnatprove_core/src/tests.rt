@@ -19,6 +19,19 @@ const UNKNOWN: &str =
 const SURE: &str =
     "procedure Sure (X : in Integer) is\nbegin\n   pragma Assert (1 <= 1);\nend Sure;\n";
 
+/// Free in layout and case, with a comment.
+const LOOSE: &str =
+    "PROCEDURE Same (x : IN integer; y : in INTEGER) -- both\nis begin pragma assert (X = Y); pragma Assert\n(x=y); END SAME;";
+
+const NOTHING: &str = "procedure P is begin null; end P;\n";
+
+const UNENDED: &str = "procedure P is begin null; end P\n";
+
+const WIDE: &str =
+    "procedure W is\n   N : constant := 170141183460469231731687303715884105728;\nbegin null; end W;\n";
+
+const STRANGE: &str = "procedure P is\nbegin null; end P;\n\u{a7}\n";
+
 /// A run: its words, the numbers of the keeper's and the sink's calls that fail, how much a write takes, the status and
 /// what is written.
 #[derive(Drop)]
@@ -48,6 +61,11 @@ fn keeper_of(alloc: Global, failing: &[u64]) -> Result<MapKeeper, AllocError> {
         ("unknown.adb", UNKNOWN),
         ("sure.adb", SURE),
         ("e.adb", ""),
+        ("loose.adb", LOOSE),
+        ("nothing.adb", NOTHING),
+        ("p.adb", UNENDED),
+        ("w.adb", WIDE),
+        ("strange.adb", STRANGE),
     ];
     let mut entries = Items::new(alloc);
     for (name, text) in files {
@@ -77,11 +95,14 @@ const SAME_ROWS: &str =
 const GROUND_ROWS: &str =
     "ground.adb:3:19: info: assertion proved\nground.adb:4:19: medium: assertion might fail (no counterexample)\nground.adb:5:19: info: assertion proved\n";
 
+const LOOSE_ROWS: &str =
+    "loose.adb:2:25: medium: assertion might fail (no counterexample)\nloose.adb:3:2: info: assertion proved\n";
+
 const USAGE: &str = "gnatprove: usage\n";
 
 #[test]
 fn reports_and_refusals(rt: HostRuntime) -> Result<(), Fail> {
-    let files: [(&str, Status, &str); 6] = [
+    let files: [(&str, Status, &str); 11] = [
         ("same.adb", Status::Unproved, SAME_ROWS),
         ("ground.adb", Status::Unproved, GROUND_ROWS),
         (
@@ -94,7 +115,20 @@ fn reports_and_refusals(rt: HostRuntime) -> Result<(), Fail> {
             Status::Refused,
             "unknown.adb:3:23: error: UnknownName\n",
         ),
-        ("e.adb", Status::Refused, "e.adb:1:1: error: NotBuilt\n"),
+        ("e.adb", Status::Refused, "e.adb:1:1: error: Unexpected\n"),
+        ("loose.adb", Status::Unproved, LOOSE_ROWS),
+        (
+            "nothing.adb",
+            Status::Refused,
+            "nothing.adb:1:1: error: NotBuilt\n",
+        ),
+        ("p.adb", Status::Refused, "p.adb:2:1: error: Unexpected\n"),
+        ("w.adb", Status::Refused, "w.adb:2:20: error: TooWide\n"),
+        (
+            "strange.adb",
+            Status::Refused,
+            "strange.adb:3:1: error: BadByte\n",
+        ),
         (
             "absent.adb",
             Status::Refused,
@@ -192,6 +226,44 @@ fn calls_that_fail(rt: HostRuntime) -> Result<(), Fail> {
     ];
     for case in &cases {
         runs(&rt, rt.alloc(), case)?;
+    }
+    Ok(())
+}
+
+/// The text of a procedure with an assertion in so many brackets, on its third line.
+fn nested(alloc: Global, brackets: usize) -> Result<String, AllocError> {
+    let mut text = String::from_str(alloc, "procedure Deep is\nbegin\n   pragma Assert ")?;
+    for _ in 0..brackets {
+        text.push_str("(")?;
+    }
+    text.push_str("True")?;
+    for _ in 0..brackets {
+        text.push_str(")")?;
+    }
+    text.push_str(";\nend Deep;\n")?;
+    Ok(text)
+}
+
+#[test]
+fn levels(rt: HostRuntime) -> Result<(), Fail> {
+    let cases = [
+        (200, "deep.adb:1:1: error: NotBuilt\n"),
+        (201, "deep.adb:3:218: error: TooDeep\n"),
+    ];
+    for (brackets, text) in cases {
+        let alloc = rt.alloc();
+        let file = nested(alloc, brackets)?;
+        let mut entries = Items::new(alloc);
+        entries.push(Entry {
+            name: NameText::from_text(alloc, "deep.adb")?,
+            bytes: ByteList::from_slice(alloc, file.as_str().as_bytes())?,
+        })?;
+        let mut files = MapKeeper::new(entries, Items::new(alloc));
+        let mut out = ListSink::taking(alloc, Items::new(alloc), ALL);
+        let words = words_of(alloc, &["prove", "deep.adb"])?;
+        let status = run_alone(alloc, &words, &mut files, &mut out);
+        assert_eq!(rt; status.code(), 2);
+        assert!(rt; out.bytes() == text.as_bytes());
     }
     Ok(())
 }

@@ -1,8 +1,7 @@
-use Rattle.std.proofs.Common.{◌≡◌, ◌+◌, drop}
+use Rattle.std.proofs.Common.{◌≡◌, drop}
 use Rattle.first_form.specs.Places.{first_unknown}
-use Rattle.first_form.proofs.Searches.{unknown_from}
+use Rattle.first_form.proofs.Searches.{unknown_among}
 use Rattle.first_form.proofs.places.first_unknown.Given as goal
 
 abbrev pub invariant-loop-assertion : goal.invariant-loop-assertion
-invariant-loop-assertion l =
-    (l.line ≡ l.assertion-index + 3) × (unknown_from l.form.params l.line (drop l.assertion-index l.assertion-items) ≡ first_unknown l.form)
+invariant-loop-assertion l = unknown_among l.form.params (drop l.assertion-index l.assertion-items) ≡ first_unknown l.form

@@ -1,16 +1,10 @@
-use Rattle.std.proofs.Common.{◌∙◌, ap, sym, subst, ℕ, List, false}
+use Rattle.std.proofs.Common.{◌≡◌, ◌∙◌, ap, sym, subst, List}
+use Rattle.std.specs.Prelude.{IfOk}
 use Rattle.form_prover.specs.declared.rows.Row.{Row}
-use Rattle.form_prover.specs.Formulas.{input_nodes}
-use Rattle.form_prover.proofs.Passing.{Passed, started, passed_all}
+use Rattle.form_prover.proofs.Exact.{rows_among, one_worker_is}
 use Rattle.form_prover.proofs.rows.rows_of.Goals as goal
-
-pub loop-assertion-init : goal.loop-assertion-init
-loop-assertion-init c =
-    let first = started c.args.form.now c.in_ok-inputs.field-0 (c.in_ok-inputs.ensures ∙ ap (λ (n : ℕ). input_nodes n 0) c.len.ensures) in
-    subst (λ (rows : List Row). Passed c.args.form.now rows c.in_ok-inputs.field-0 false 3 0) (sym c.new.ensures) first
 
 pub returns : goal.returns
 returns c =
-    passed_all c.args.form.now c.loop-assertion.way.rows c.loop-assertion.way.hypotheses c.loop-assertion.way.refuted c.loop-assertion.line
-    c.loop-assertion.assertion-index c.as_slice-assertion-items.result.now c.loop-assertion.invariant c.as_slice-assertion-items.ensures
-    c.loop-assertion-test.false
+    let rows = ap rows_among (c.as_slice.ensures ∙ c.in_ok-verdicts.ensures) ∙ sym (one_worker_is c.args.form.now) in
+    subst (λ (xs : List Row). IfOk c.rows_among.result (λ rs. rs ≡ xs)) rows c.rows_among.ensures

@@ -1,9 +1,0 @@
-use Rattle.std.proofs.Common.{◌≡◌, ◌+◌, ◌≤◌, length}
-use Rattle.std.specs.Fmt.{decimal}
-use Rattle.first_form.proofs.places.digit_count.Given as goal
-
-abbrev pub invariant-loop-left : goal.invariant-loop-left
-invariant-loop-left l = (l.count + length (decimal l.left) ≡ length (decimal l.fn.number) + 1) × (l.left ≤ l.fn.number)
-
-abbrev pub decreases-loop-left : goal.decreases-loop-left
-decreases-loop-left l = l.left

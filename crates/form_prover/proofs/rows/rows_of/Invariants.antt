@@ -1,5 +1,0 @@
-use Rattle.form_prover.proofs.Passing.{Passed}
-use Rattle.form_prover.proofs.rows.rows_of.Given as goal
-
-abbrev pub invariant-loop-assertion : goal.invariant-loop-assertion
-invariant-loop-assertion l = Passed l.fn.form l.way.rows l.way.hypotheses l.way.refuted l.line l.assertion-index
