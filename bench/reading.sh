@@ -1,7 +1,7 @@
 #!/usr/bin/env bash
 # Times the built program on sources of 512 KiB and 1 MiB that it reads and doesn't prove, and prints the memory that it
 # takes for each token. It is no part of the gate. 1 MiB is to take at most 2.2 times as long as 512 KiB and less than a
-# second, in less than 400 bytes a token.
+# second of one processor, in less than 400 bytes a token.
 set -eu
 cd "$(dirname "$0")/.."
 program=$PWD/crates/gnatprove/out/gnatprove
@@ -20,21 +20,24 @@ write_file() {
     }' > "$folder/bench.adb" 2> "$folder/tokens"
 }
 
-runs=5
+# the least of five times of a processor in microseconds, and the greatest memory in bytes
+measure() {
+    python3 -c '
+import os, subprocess, sys
+times, memory = [], 0
+for _ in range(5):
+    child = subprocess.Popen([sys.argv[1], "prove", "bench.adb"], stdout=open("out", "wb"))
+    _, status, used = os.wait4(child.pid, 0)
+    if os.waitstatus_to_exitcode(status) != 2:
+        sys.exit("the program did not refuse the file")
+    times.append(used.ru_utime + used.ru_stime)
+    memory = max(memory, used.ru_maxrss * 1024)
+print(int(min(times) * 1e6), memory)' "$program"
+}
+
 for size in 524288 1048576; do
     write_file "$size"
-    best=
-    for ((run = 0; run < runs; run++)); do
-        start=$(date +%s%N)
-        (cd "$folder" && "$program" prove bench.adb > out) || [ $? = 2 ]
-        end=$(date +%s%N)
-        took=$(((end - start) / 1000))
-        [ -n "$best" ] && [ "$best" -le "$took" ] || best=$took
-    done
-    memory=$( (cd "$folder" && python3 -c '
-import resource, subprocess, sys
-subprocess.run([sys.argv[1], "prove", "bench.adb"], stdout=subprocess.DEVNULL)
-print(resource.getrusage(resource.RUSAGE_CHILDREN).ru_maxrss * 1024)' "$program"))
+    read -r took memory < <(cd "$folder" && measure)
     tokens=$(cat "$folder/tokens")
-    echo "$(stat -c %s "$folder/bench.adb") bytes, $tokens tokens: $best microseconds, $((memory / tokens)) bytes of memory a token; $(cat "$folder/out")"
+    echo "$(stat -c %s "$folder/bench.adb") bytes, $tokens tokens: $took microseconds, $((memory / tokens)) bytes of memory a token; $(cat "$folder/out")"
 done
