@@ -1,0 +1,124 @@
+//! The lines of a certificate.
+
+ghost use Rattle.std.specs.Prelude.{◌≡◌};
+ghost use Rattle.cert_lines.specs.Line.{code_of};
+ghost use Rattle.cert_lines.specs.View.{line, code};
+
+use crate::rule::Rule;
+use crate::step::StepLines;
+use logic_terms::{Formula, FormulaList, Term};
+use sqlite_items::Items;
+
+/// Numbers of earlier lines in order.
+pub type HintList = Items<u32>;
+
+/// The lines of a certificate in order.
+pub type CertLines = Items<CertLine>;
+
+/// A certificate of a goal.
+#[derive(Drop)]
+pub struct Cert {
+    pub lines: CertLines,
+}
+
+/// A line, which yields a clause: a list of formulas of which one is true. Lines are numbered from 1. A part that its rule
+/// does not have is a line that is not allowed.
+#[derive(Drop)]
+pub enum CertLine {
+    /// `given K`: hypothesis K, from 0, or the negated conclusion where K is their number.
+    Given(u32),
+    /// `open P A`: what a connective says of its parts.
+    Open {
+        part: u32,
+        formula: Formula,
+    },
+    /// `case P t`: what a choice is on each side.
+    Case {
+        part: u32,
+        term: Term,
+    },
+    /// `rup N L1 .. LN K ..`: follows from the lines K by propagation of unit clauses.
+    Rup {
+        literals: FormulaList,
+        hints: HintList,
+    },
+    /// `lin N L1 .. LN STEPS`: follows by sums of linear forms.
+    Lin {
+        literals: FormulaList,
+        steps: StepLines,
+    },
+    /// `tri a b`: of two numbers, they are equal or one is less.
+    Tri {
+        left: Term,
+        right: Term,
+    },
+    /// `ins t Q`: an instance of a quantifier.
+    Ins {
+        at: Term,
+        formula: Formula,
+    },
+    /// `new K Q`: a new symbol K for what a quantifier says is there.
+    New {
+        symbol: u32,
+        formula: Formula,
+    },
+    /// `same D K E L`: equals for equals, at occurrence K, from 0, of a side of E in L.
+    Same {
+        direction: u32,
+        occurrence: u32,
+        equation: Formula,
+        literal: Formula,
+    },
+    /// `arr P t`: what items and bounds of an array are.
+    Arr {
+        part: u32,
+        term: Term,
+    },
+    /// `ext a b`: arrays with equal bounds and items are equal.
+    Ext {
+        left: Term,
+        right: Term,
+    },
+    /// `fld P t`: what fields of a record are.
+    Fld {
+        part: u32,
+        term: Term,
+    },
+    /// `div P a d`: what a quotient and remainders by a number are.
+    Div {
+        part: u32,
+        dividend: Term,
+        divisor: i128,
+    },
+    /// `mul f g`: the product of two numbers that are at least 0.
+    Mul {
+        left: Term,
+        right: Term,
+    },
+    /// `calc A`: the truth that is computed.
+    Calc(Formula),
+}
+
+impl CertLine {
+    /// The rule of the line.
+    pub fn rule(&self) -> Rule
+        ensures { code result ≡ code_of (line self.now) }
+    {
+        match self {
+            CertLine::Given(_) => Rule::C1,
+            CertLine::Open { .. } | CertLine::Case { .. } => Rule::C2,
+            CertLine::Rup { .. } => Rule::C3,
+            CertLine::Lin { .. } => Rule::C4,
+            CertLine::Tri { .. } => Rule::C5,
+            CertLine::Ins { .. } => Rule::C6,
+            CertLine::New { .. } => Rule::C7,
+            CertLine::Same { .. } => Rule::C8,
+            CertLine::Arr { .. } => Rule::C9,
+            CertLine::Ext { .. } => Rule::C10,
+            CertLine::Fld { .. } => Rule::C11,
+            CertLine::Div { .. } => Rule::C12,
+            CertLine::Mul { .. } => Rule::C13,
+            CertLine::Calc(_) => Rule::C14,
+        }
+    }
+}

@@ -1,0 +1,16 @@
+pub mod Names
+pub mod Clauses
+pub mod Opposite
+pub mod Equals
+pub mod Sorting
+pub mod Premises
+pub mod Values
+pub mod Opening
+pub mod Propagation
+pub mod Linear
+pub mod Fresh
+pub mod Quantifiers
+pub mod Replacing
+pub mod Compound
+pub mod Division
+pub mod Sound

@@ -1,0 +1,14 @@
+pub mod Judged
+pub mod Context
+pub mod Clause
+pub mod Opening
+pub mod Propagation
+pub mod Linear
+pub mod Quantifiers
+pub mod Replacing
+pub mod Compound
+pub mod Division
+pub mod Rules
+pub mod Checking
+pub mod Worked
+pub mod WorkedCompound

@@ -1,0 +1,3 @@
+pub mod Assumed
+pub mod Steps
+pub mod Store

@@ -1,0 +1,12 @@
+//! Clauses that follow because linear forms can't all be at least 0 (rule C4).
+#![tactic(auto)]
+
+mod forms;
+mod line;
+mod refuted;
+mod steps;
+mod terms;
+#[cfg(test)]
+mod tests;
+
+pub use line::linear_line;
