@@ -10,6 +10,7 @@ use Rattle.logic_terms.specs.Sorting.{Signature, IsWorldOf, HasKind, node_kind, 
 use Rattle.logic_terms.specs.Arrays.{has_item, is_whole}
 use Rattle.logic_terms.proofs.Items.{item_other, item_outside, has_item_stored, no_item_stored}
 use Rattle.logic_terms.proofs.SameNodes.{same_int-is, same_bool-is}
+use Rattle.logic_terms.proofs.Alike.{nth_item}
 use Rattle.logic_terms.proofs.Sorted.{same_kind-is, meaning-has}
 use Rattle.cert_rules.specs.Clause.{equals}
 use Rattle.cert_rules.proofs.Equals.{same_value-refl}
@@ -110,12 +111,6 @@ le_is i j h = grind (arith, ints)
 
 pub le_holds : (i j : ℤ) → i ≤ℤ j → int_le i j ≡ true
 le_holds i j h = grind (arith, ints)
-
-nth_steps : (f : ℤ) (n : ℕ) → steps (f +ℤ pos n -ℤ f) ≡ n
-nth_steps f n = let e : f +ℤ pos n -ℤ f ≡ pos n = omega (arith, ints) in ap steps e
-
-nth_item : (k : Kind) (f l : ℤ) (vs : Values) (n : ℕ) → within f l (f +ℤ pos n) ≡ true → item (array k f l vs) (f +ℤ pos n) ≡ value_at vs n (default k)
-nth_item k f l vs n h = rw h (ap (λ j. value_at vs j (default k)) (nth_steps f n))
 
 -- arrays of one kind, with the same bounds and the same items, are one array
 pub arrays_one : (k : Kind) (a b : Value) → is_of (arrays k) a ≡ true → is_of (arrays k) b ≡ true → first a ≡ first b → last a ≡ last b → ((i : ℤ) → first a ≤ℤ i → i ≤ℤ last a → item a i ≡ item b i) → a ≡ b

@@ -1,5 +1,5 @@
 -- Where a gathering has a number that does not fit, so has the form that it serves.
-use Rattle.std.proofs.Common.{◌≡◌, refl, ◌∙◌, ap, Bool, true, false, List, []}
+use Rattle.std.proofs.Common.{◌≡◌, refl, ap, Bool, true, false, List, []}
 use Rattle.std.specs.Prelude.{◌&&◌, ℤ, ◌+ℤ◌, ◌*ℤ◌}
 use Rattle.linear_forms.specs.Form.{Monomial, Form, gathered, scaled, products}
 use Rattle.linear_forms.specs.Fits.{fits, gathering_fits, combining_fits, multiplying_fits}

@@ -1,11 +1,11 @@
 -- The greatest common divisor of coefficients, found one by one.
-use Rattle.std.proofs.Common.{◌≡◌, refl, sym, ◌∙◌, ap, ap₂, ℕ, zero, suc, ◌+◌, ◌<◌, ◌≤◌, ◌%◌, ◌⊎◌, inl, inr, Bool, true, false, List, [], ◌∷◌, ◌++◌, length, take, drop, map, get_or, arith, subst, add-one}
-use Rattle.std.specs.Prelude.{ℤ, ◌&&◌, ◌==◌, unsigned_abs, if◌then◌else◌}
+use Rattle.std.proofs.Common.{◌≡◌, refl, sym, ◌∙◌, ap, ℕ, zero, suc, ◌+◌, ◌<◌, ◌≤◌, ◌%◌, ◌⊎◌, inl, inr, Bool, true, false, List, [], ◌∷◌, ◌++◌, length, take, get_or, arith, subst, add-one}
+use Rattle.std.specs.Prelude.{◌&&◌, ◌==◌, unsigned_abs, if◌then◌else◌}
 use Rattle.std.specs.Int.{◌∣◌, IsGcd}
 use Rattle.std.proofs.Math.Nat.{mod-eq_of_lt}
 use Rattle.std.proofs.lemmas.Nat.Gcd.{dvd_refl, dvd-zero, dvd_trans, le_of_dvd, dvd_of_mod-eq-zero, mod-eq-zero_of_dvd}
 use Rattle.std.proofs.lemmas.Bool.{and_parts, and_from, eqb-true, false≢true}
-use Rattle.linear_forms.specs.Form.{Monomial, monomial, divides_all, greatest_to, divisor, total}
+use Rattle.linear_forms.specs.Form.{Monomial, divides_all, greatest_to, divisor, total}
 use Rattle.linear_forms.specs.View.{part, parts}
 use Rattle.linear_forms.specs.declared.form.Part.{Part}
 use Rattle.std.proofs.lemmas.List.{take_all}

@@ -1,10 +1,10 @@
 -- A number that fits 128 bits, as the code and the definition test it.
-use Rattle.std.proofs.Common.{◌≡◌, refl, sym, ◌∙◌, ap, Bool, true, false, Option, Some, None, Result, Ok, Err, arith, subst}
+use Rattle.std.proofs.Common.{◌≡◌, refl, sym, Bool, true, false, Option, Some, None, Result, arith, subst}
 use Rattle.std.proofs.lemmas.Int.{ints}
-use Rattle.std.specs.Prelude.{ℤ, pos, negsuc, FitsSigned, SomeIff, MatchResult}
+use Rattle.std.specs.Prelude.{ℤ, pos, negsuc, FitsSigned, SomeIff}
 use Rattle.std.specs.Int.{w128}
 use Rattle.linear_forms.specs.Fits.{fits}
-use Rattle.linear_forms.specs.View.{MakesNumber, IsFault, or_wide}
+use Rattle.linear_forms.specs.View.{MakesNumber, or_wide}
 use Rattle.linear_forms.specs.declared.fault.FormFault.{FormFault}
 
 pub narrow_fits : (z : ℤ) → FitsSigned w128 z → fits z ≡ true

@@ -1,23 +1,20 @@
 -- Forms stay in order.
-use Rattle.std.proofs.Common.{◌≡◌, ◌≢◌, refl, sym, ◌∙◌, ap, ap₂, subst, ℕ, zero, suc, ◌%◌, Bool, true, false, List, [], ◌∷◌, ◌++◌, map, arith, ℤ, pos, negsuc, ◌+ℤ◌, ◌*ℤ◌, IsTrue}
+use Rattle.std.proofs.Common.{◌≡◌, ◌≢◌, refl, sym, ◌∙◌, ap, ap₂, ℕ, zero, suc, ◌%◌, Bool, true, false, List, [], ◌∷◌, map, arith, ℤ, pos, negsuc, ◌+ℤ◌, ◌*ℤ◌}
 use Rattle.std.specs.Prelude.{if◌then◌else◌, unsigned_abs}
 use Rattle.std.proofs.lemmas.Bool.{and_parts, eqb-true, false≢true}
 use Rattle.std.specs.declared.cmp.Ordering.{Ordering}
 use Rattle.std.specs.declared.cmp.Ordering.TheVariants.{Less, Equal, Greater}
-use Rattle.std.proofs.lemmas.Cmp.{tied_itself}
-use Rattle.std.specs.Cmp.{IsTotalOrder}
-use Rattle.std.specs.Cmp.Lexicographic.{nat_list_cmp_total, texts_ties, bytes_decides}
-use Rattle.std.specs.Ordering.{ordering_reverse, is_eq}
+use Rattle.std.specs.Ordering.{ordering_reverse}
 use Rattle.std.proofs.lemmas.Int.{ints}
 use Rattle.std.proofs.Math.IntN.{zero-*ℤ}
 use Rattle.logic_terms.specs.Node.{Node, mul, add, sub, arith as compute_by, num, op2}
 use Rattle.logic_terms.specs.Value.{same_int}
 use Rattle.logic_terms.specs.Same.{same_node}
-use Rattle.logic_terms.proofs.SameNodes.{same_int-is, same_int-refl, same_node-is, same_node-refl}
+use Rattle.logic_terms.proofs.SameNodes.{same_node-is, same_node-refl}
 use Rattle.term_text.specs.Text.{node_text, text_order, is_less, precedes}
 use Rattle.term_text.proofs.Apart.{texts_apart}
 use Rattle.term_text.proofs.TextOrder.{total_order, precedes_chain, precedes_itself, precedes_neither, same_texts}
-use Rattle.linear_forms.specs.Form.{Monomial, monomial, Form, form, kept, with_monomial, gathered, scaled, combined, products, multiplied, form_of_node, floor, divides_all, divisor, divided, tightened, total, greatest_to}
+use Rattle.linear_forms.specs.Form.{Monomial, monomial, Form, form, kept, with_monomial, gathered, scaled, combined, products, multiplied, form_of_node, floor, divides_all, divisor, divided, tightened, total}
 use Rattle.linear_forms.specs.Ordered.{PrecedesAll, AreOrdered, IsOrdered, coefficient_of}
 use Rattle.linear_forms.proofs.Tightening.{floor_exact, greatest_divides}
 

@@ -1,16 +1,16 @@
 -- Where a variable stands among monomials.
-use Rattle.std.proofs.Common.{◌≡◌, refl, sym, ◌∙◌, ap, ap₂, ℕ, zero, suc, ◌+◌, ◌<◌, ◌≤◌, Bool, true, false, List, [], ◌∷◌, ◌++◌, length, take, drop, map, get_or, arith, add-one}
-use Rattle.std.specs.Prelude.{ℤ, pos, ◌+ℤ◌, if◌then◌else◌}
+use Rattle.std.proofs.Common.{◌≡◌, refl, sym, ◌∙◌, ap, ℕ, zero, suc, ◌+◌, ◌<◌, ◌≤◌, Bool, true, false, List, [], ◌∷◌, ◌++◌, length, take, drop, get_or, arith, add-one}
+use Rattle.std.specs.Prelude.{ℤ, ◌+ℤ◌, if◌then◌else◌}
 use Rattle.std.proofs.lemmas.List.{get_or-map, length-map}
 use Rattle.std.proofs.Math.ListN.{drop_of_length-le}
 use Rattle.logic_terms.specs.Node.{Node}
 use Rattle.logic_terms.specs.View.{term}
 use Rattle.logic_terms.specs.Same.{same_node}
 use Rattle.term_text.specs.Text.{precedes}
-use Rattle.linear_forms.specs.Form.{Monomial, monomial, kept, with_monomial}
+use Rattle.linear_forms.specs.Form.{Monomial, kept, with_monomial}
 use Rattle.linear_forms.specs.Fits.{raised}
 use Rattle.linear_forms.specs.View.{part, parts}
-use Rattle.linear_forms.specs.Places.{at, nothing, raised_at, IsPlace}
+use Rattle.linear_forms.specs.Places.{at, nothing, IsPlace}
 use Rattle.linear_forms.specs.declared.form.Part.{Part}
 use Rattle.linear_forms.specs.declared.place.Place.TheVariants.{At, Before}
 

@@ -1,5 +1,5 @@
 -- A monomial that is raised, dropped or inserted.
-use Rattle.std.proofs.Common.{◌≡◌, ◌≢◌, refl, sym, ◌∙◌, ap, ap₂, ℕ, suc, ◌+◌, ◌<◌, ◌≤◌, Bool, true, false, List, [], ◌∷◌, ◌++◌, length, take, drop, map, get_or, set, arith}
+use Rattle.std.proofs.Common.{◌≡◌, ◌≢◌, refl, sym, ◌∙◌, ap, ap₂, ℕ, suc, ◌<◌, Bool, true, false, List, ◌∷◌, ◌++◌, length, take, drop, get_or, set}
 use Rattle.std.specs.Prelude.{ℤ, pos, ◌+ℤ◌, if◌then◌else◌, remove}
 use Rattle.std.specs.List.{insert}
 use Rattle.std.proofs.lemmas.List.{map-append, take-map, drop-map, set_split, take-append-drop}
@@ -7,8 +7,8 @@ use Rattle.logic_terms.specs.Node.{Node}
 use Rattle.logic_terms.specs.View.{term}
 use Rattle.logic_terms.specs.Value.{same_int}
 use Rattle.logic_terms.proofs.SameNodes.{same_int-is}
-use Rattle.linear_forms.specs.Form.{Monomial, monomial, kept, with_monomial}
-use Rattle.linear_forms.specs.Fits.{fits, raised}
+use Rattle.linear_forms.specs.Form.{Monomial, monomial, kept}
+use Rattle.linear_forms.specs.Fits.{fits}
 use Rattle.linear_forms.specs.View.{part, parts}
 use Rattle.linear_forms.specs.Places.{at, raised_at}
 use Rattle.linear_forms.specs.declared.form.Part.{Part}

@@ -1,14 +1,14 @@
 -- Tightening keeps the whole numbers at which a form is at least 0.
-use Rattle.std.proofs.Common.{◌≡◌, refl, sym, ◌∙◌, ap, ap₂, ℕ, zero, suc, ◌+◌, ◌-◌, ◌*◌, ◌/◌, ◌%◌, ◌<◌, ◌≤◌, ◌⊎◌, inl, inr, Bool, true, false, ◌↔◌, List, [], ◌∷◌, map, arith, ℤ, pos, negsuc, neg_ℤ, ◌+ℤ◌, ◌-ℤ◌, ◌*ℤ◌, ◌≤ℤ◌}
-use Rattle.std.specs.Prelude.{if◌then◌else◌, ◌&&◌, ◌==◌, unsigned_abs}
+use Rattle.std.proofs.Common.{◌≡◌, refl, sym, ◌∙◌, ap, ap₂, ℕ, zero, suc, ◌+◌, ◌-◌, ◌*◌, ◌/◌, ◌%◌, ◌<◌, ◌⊎◌, inl, inr, Bool, true, false, ◌↔◌, List, [], ◌∷◌, map, arith, ℤ, pos, negsuc, neg_ℤ, ◌+ℤ◌, ◌*ℤ◌, ◌≤ℤ◌}
+use Rattle.std.specs.Prelude.{if◌then◌else◌, unsigned_abs}
 use Rattle.std.proofs.Math.Nat.{mod-eq_of_lt, mod_self, suc-mod}
 use Rattle.std.proofs.lemmas.Nat.{mod_below}
-use Rattle.std.proofs.lemmas.Bool.{cases_lt, and_parts, eqb-true, false≢true}
+use Rattle.std.proofs.lemmas.Bool.{cases_lt, and_parts, eqb-true}
 use Rattle.std.proofs.lemmas.Int.{ints}
 use Rattle.std.proofs.Math.IntN.{zero-*ℤ, *ℤ_comm, pos-*ℤ-pos, negsuc-*ℤ-pos}
 use Rattle.logic_terms.specs.Value.{Value, as_number}
 use Rattle.logic_terms.specs.Meaning.{World, meaning}
-use Rattle.linear_forms.specs.Form.{Monomial, monomial, Form, form, monomials_value, form_value, floor, divides_all, greatest_to, divisor, divided, tightened, total}
+use Rattle.linear_forms.specs.Form.{Monomial, monomial, Form, monomials_value, form_value, floor, divides_all, greatest_to, divisor, divided, tightened, total}
 use Rattle.linear_forms.proofs.Integers.{add_mul, mul_assoc}
 
 -- ---- one division

@@ -1,17 +1,15 @@
 -- The values of sums and products of forms, and of the form of a term.
-use Rattle.std.proofs.Common.{◌≡◌, refl, sym, ◌∙◌, ap, ap₂, Bool, true, false, List, [], ◌∷◌, ◌++◌, map, arith, ℤ, pos, negsuc, ◌+ℤ◌, ◌-ℤ◌, ◌*ℤ◌}
+use Rattle.std.proofs.Common.{◌≡◌, refl, sym, ◌∙◌, ap, ap₂, Bool, true, false, List, [], ◌∷◌, ◌++◌, arith, ℤ, pos, ◌+ℤ◌, ◌*ℤ◌}
 use Rattle.std.specs.Prelude.{if◌then◌else◌}
 use Rattle.std.proofs.lemmas.Int.{ints}
 use Rattle.std.proofs.Math.IntN.{zero-*ℤ, *ℤ-zero, *ℤ_comm}
-use Rattle.logic_terms.specs.Node.{add, sub, mul, arith as compute_by, Node, num, op2}
-use Rattle.logic_terms.specs.Value.{Value, as_number, same_int}
+use Rattle.logic_terms.specs.Node.{mul, arith as compute_by, Node, op2}
+use Rattle.logic_terms.specs.Value.{Value, as_number}
 use Rattle.logic_terms.specs.Meaning.{World, meaning}
-use Rattle.logic_terms.specs.Same.{same_node}
 use Rattle.term_text.specs.Text.{precedes}
-use Rattle.logic_terms.proofs.SameNodes.{same_int-is, same_node-is}
-use Rattle.linear_forms.specs.Form.{Monomial, monomial, Form, form, monomials_value, form_value, kept, with_monomial, gathered, scaled, combined, product_variable, multiples, products, multiplied, form_of_node}
+use Rattle.linear_forms.specs.Form.{Monomial, Form, monomials_value, form_value, gathered, scaled, combined, multiples, products, multiplied}
 use Rattle.linear_forms.proofs.Sums.{no_more, gathered_sum, scaled_sum, combined_sum}
-use Rattle.linear_forms.proofs.Integers.{add_mul, mul_add, mul_assoc, mul_mul}
+use Rattle.linear_forms.proofs.Integers.{add_mul, mul_add, mul_mul}
 
 abbrev at : World → List Value → Node → ℤ
 at w vs v = as_number (meaning w vs v)

@@ -1,6 +1,6 @@
 -- Whether all numbers on the way to a form lie in 128 bits: the constants and coefficients of the forms that are combined,
 -- their products, and each sum as the monomials are gathered in order.
-use Rattle.std.specs.Prelude.{Bool, true, false, ◌&&◌, ℤ, pos, negsuc, ◌+ℤ◌, ◌*ℤ◌, List, [], ◌∷◌, if◌then◌else◌}
+use Rattle.std.specs.Prelude.{Bool, true, ◌&&◌, ℤ, pos, negsuc, ◌+ℤ◌, ◌*ℤ◌, List, [], ◌∷◌, if◌then◌else◌}
 use Rattle.logic_terms.specs.Node.{add, sub, mul, arith, Node, num, op2}
 use Rattle.logic_terms.specs.Run.{is_narrow}
 use Rattle.logic_terms.specs.Same.{same_node}

@@ -1,5 +1,5 @@
 -- Linear forms over the whole numbers, and the form of a term.
-use Rattle.std.specs.Prelude.{ℕ, zero, suc, Bool, true, false, ◌&&◌, ◌+◌, ◌/◌, ◌%◌, ◌==◌, ℤ, pos, negsuc, ◌+ℤ◌, ◌*ℤ◌, unsigned_abs, List, [], ◌∷◌, ◌++◌, map, if◌then◌else◌}
+use Rattle.std.specs.Prelude.{ℕ, zero, suc, Bool, true, ◌&&◌, ◌+◌, ◌/◌, ◌%◌, ◌==◌, ℤ, pos, negsuc, ◌+ℤ◌, ◌*ℤ◌, unsigned_abs, List, [], ◌∷◌, ◌++◌, map, if◌then◌else◌}
 use Rattle.logic_terms.specs.Node.{add, sub, mul, arith, Node, num, op2}
 use Rattle.logic_terms.specs.Value.{Value, as_number, same_int}
 use Rattle.logic_terms.specs.Meaning.{World, meaning}

@@ -1,5 +1,5 @@
 -- What the steps of gathering monomials do.
-use Rattle.std.specs.Prelude.{◌≡◌, ℕ, suc, ◌<◌, ◌≤◌, Bool, true, false, ℤ, pos, ◌+ℤ◌, List, [], ◌∷◌, ◌++◌, length, take, drop, slice_index_or, Result, MatchResult}
+use Rattle.std.specs.Prelude.{◌≡◌, ℕ, suc, ◌<◌, ◌≤◌, true, ℤ, pos, ◌+ℤ◌, List, ◌++◌, length, take, drop, slice_index_or, Result, MatchResult}
 use Rattle.logic_terms.specs.Node.{Node, num}
 use Rattle.linear_forms.specs.Form.{Monomial, monomial, kept, with_monomial, gathered}
 use Rattle.linear_forms.specs.Fits.{fits, raised, gathering_fits}

@@ -12,7 +12,7 @@ use crate::gather::{add_multiples, add_products};
 use crate::gcd::{divisor, floor_quotient};
 use crate::numbers::{product, sum};
 use logic_terms::{Starved, Term};
-use sqlite_items::Items;
+use sqlite_items::{Boxed, Items};
 use std::alloc::Global;
 
 /// `m` times one form plus `n` times another.
@@ -66,6 +66,81 @@ fn variable_form(alloc: Global, t: &Term) -> Result<LinearForm, Starved>
     Ok(LinearForm { constant: 0, parts })
 }
 
+// What recurses holds boxes alone, and leaves what takes more of the stack to functions that are never inlined.
+
+/// A number as a form, behind a box.
+#[inline(never)]
+fn boxed_number(alloc: Global, n: i128) -> Result<Boxed<LinearForm>, Starved>
+    ensures { IfOk result (λ f. linear f ≡ form n []) }
+{
+    let number = LinearForm {
+        constant: n,
+        parts: Items::new(alloc),
+    };
+    Ok(Boxed::new(alloc, number)?)
+}
+
+/// A term as a variable, behind a box.
+#[inline(never)]
+fn boxed_variable(alloc: Global, t: &Term) -> Result<Boxed<LinearForm>, Starved>
+    ensures { IfOk result (λ f. linear f ≡ form (pos 0) (monomial (pos 1) (term t.now) ∷ [])) }
+{
+    Ok(Boxed::new(alloc, variable_form(alloc, t)?)?)
+}
+
+/// A form plus a multiple of another, behind a box.
+#[inline(never)]
+fn boxed_sum(
+    alloc: Global,
+    a: Boxed<LinearForm>,
+    b: Boxed<LinearForm>,
+    n: i128,
+) -> Result<Boxed<LinearForm>, FormFault>
+    ensures { Makes (combined (pos 1) (linear a) n (linear b)) (combining_fits (pos 1) (linear a) n (linear b)) result }
+{
+    let sum = add_scaled(alloc, a.get(), 1, b.get(), n)?;
+    Ok(Boxed::new(alloc, sum)?)
+}
+
+/// Two forms multiplied out, behind a box.
+#[inline(never)]
+fn boxed_product(
+    alloc: Global,
+    a: Boxed<LinearForm>,
+    b: Boxed<LinearForm>,
+) -> Result<Boxed<LinearForm>, FormFault>
+    ensures { Makes (multiplied (linear a) (linear b)) (multiplying_fits (linear a) (linear b)) result }
+{
+    let product = multiply(alloc, a.get(), b.get())?;
+    Ok(Boxed::new(alloc, product)?)
+}
+
+/// The form of a term, behind a box.
+#[inline(never)]
+fn boxed_form(alloc: Global, t: &Term) -> Result<Boxed<LinearForm>, FormFault>
+    ensures { Makes (form_of_node (term t.now)) (node_fits (term t.now)) result }
+{
+    match t {
+        Term::Num(n) => Ok(boxed_number(alloc, *n)?),
+        Term::Add(a, b) => {
+            let first = boxed_form(alloc, a.get())?;
+            let second = boxed_form(alloc, b.get())?;
+            boxed_sum(alloc, first, second, 1)
+        }
+        Term::Sub(a, b) => {
+            let first = boxed_form(alloc, a.get())?;
+            let second = boxed_form(alloc, b.get())?;
+            boxed_sum(alloc, first, second, -1)
+        }
+        Term::Mul(a, b) => {
+            let first = boxed_form(alloc, a.get())?;
+            let second = boxed_form(alloc, b.get())?;
+            boxed_product(alloc, first, second)
+        }
+        _ => Ok(boxed_variable(alloc, t)?),
+    }
+}
+
 /// The form of a term of numbers, whose value is the term's.
 ///
 /// Sums, differences and products are taken apart, products multiplied out; any other term is a variable. `Wide` exactly
@@ -74,28 +149,7 @@ fn variable_form(alloc: Global, t: &Term) -> Result<LinearForm, Starved>
 pub fn form_of(alloc: Global, t: &Term) -> Result<LinearForm, FormFault>
     ensures { Makes (form_of_node (term t.now)) (node_fits (term t.now)) result }
 {
-    match t {
-        Term::Num(n) => Ok(LinearForm {
-            constant: *n,
-            parts: Items::new(alloc),
-        }),
-        Term::Add(a, b) => {
-            let first = form_of(alloc, a.get())?;
-            let second = form_of(alloc, b.get())?;
-            add_scaled(alloc, &first, 1, &second, 1)
-        }
-        Term::Sub(a, b) => {
-            let first = form_of(alloc, a.get())?;
-            let second = form_of(alloc, b.get())?;
-            add_scaled(alloc, &first, 1, &second, -1)
-        }
-        Term::Mul(a, b) => {
-            let first = form_of(alloc, a.get())?;
-            let second = form_of(alloc, b.get())?;
-            multiply(alloc, &first, &second)
-        }
-        _ => Ok(variable_form(alloc, t)?),
-    }
+    Ok(boxed_form(alloc, t)?.into_inner())
 }
 
 /// The form with its coefficients divided by their greatest common divisor, and its constant divided by it and rounded

@@ -187,10 +187,10 @@ nth_index f l (pos m) n e h =
     and_from _ _ a b
 nth_index f l (negsuc m) n e h = absurd (omega arith)
 
-nth_steps : (f : ℤ) (n : ℕ) → steps (f +ℤ pos n -ℤ f) ≡ n
+pub nth_steps : (f : ℤ) (n : ℕ) → steps (f +ℤ pos n -ℤ f) ≡ n
 nth_steps f n = let e : f +ℤ pos n -ℤ f ≡ pos n = omega (arith, ints) in ap steps e
 
-nth_item : (k : Kind) (f l : ℤ) (vs : Values) (n : ℕ) → within f l (f +ℤ pos n) ≡ true → item (array k f l vs) (f +ℤ pos n) ≡ value_at vs n (default k)
+pub nth_item : (k : Kind) (f l : ℤ) (vs : Values) (n : ℕ) → within f l (f +ℤ pos n) ≡ true → item (array k f l vs) (f +ℤ pos n) ≡ value_at vs n (default k)
 nth_item k f l vs n h = rw h (ap (λ j. value_at vs j (default k)) (nth_steps f n))
 
 within_item : (k : Kind) (f l : ℤ) (vs : Values) (i : ℤ) → within f l i ≡ true → item (array k f l vs) i ≡ value_at vs (steps (i -ℤ f)) (default k)

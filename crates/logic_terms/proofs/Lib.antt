@@ -1,13 +1,13 @@
 pub mod Ranged
 pub mod Substitution
 pub mod Lists
-pub mod Rules
 pub mod Sorted
 pub mod SameNodes
 pub mod Items
 pub mod Powers
 pub mod Whole
 pub mod Steps
+pub mod Operands
 pub mod Over
 pub mod Reach
 pub mod Runs

@@ -1,10 +1,11 @@
 -- What the evaluator finds, against the outcome of a run.
-use Rattle.std.specs.Prelude.{◌≡◌, ℕ, Bool, ℤ, List, [], ◌∷◌, map, MatchResult, true, false, Result, Option, Some, None}
+use Rattle.std.specs.Prelude.{◌≡◌, ℕ, Bool, ℤ, List, [], ◌∷◌, ◌++◌, map, MatchResult, true, false, Result, Option, Some, None}
 use Rattle.logic_terms.specs.Value.{Value, number, truth, record_of, Values, no_values, value}
 use Rattle.logic_terms.specs.Run.{Outcome, gives, wide, too_long}
 use Rattle.logic_terms.specs.Meaning.{filled, stored}
-use Rattle.logic_terms.specs.Node.{Arith, add, sub, mul, quo, rem, mod_by, pow, Op2, arith, sel, upd, Op3, sto, fill, Quant, all, any}
+use Rattle.logic_terms.specs.Node.{Arith, add, sub, mul, quo, rem, mod_by, pow, Op1, fst, lst, fld, Op2, arith, sel, upd, Op3, sto, fill, Quant, all, any, Node, op1, op2, op3}
 use Rattle.logic_terms.specs.declared.found.Arithmetic.{Arithmetic}
+use Rattle.logic_terms.specs.declared.operators.Unary.{Unary}
 use Rattle.logic_terms.specs.declared.operators.Binary.{Binary}
 use Rattle.logic_terms.specs.declared.operators.Ternary.{Ternary}
 use Rattle.logic_terms.specs.declared.found.Found.{Found, fold-Found}
@@ -53,6 +54,10 @@ IsFault Starved x = Unit {0}
 abbrev pub Finds : {A V : Type 0} → (A → V) → Outcome V → Result (A × ℕ) TruthFault → Type 0
 Finds view x r = MatchResult r (λ a. x ≡ gives (view a.0) a.1) (λ e. IsFault e x)
 
+-- what is added to a list of values
+abbrev pub Adds : List Found → List Found → Found → Result (Unit {0}) TruthFault → Type 0
+Adds before after v r = MatchResult r (λ _. after ≡ before ++ v ∷ []) (λ e. e ≡ Starved)
+
 abbrev pub option_outcome : Option ℤ → ℕ → Outcome Value
 option_outcome (Some z) n = gives (number z) n
 option_outcome None n = wide
@@ -66,6 +71,11 @@ arith_of Arithmetic.Rem = rem
 arith_of Arithmetic.Mod = mod_by
 arith_of Arithmetic.Pow = pow
 
+abbrev pub unary_of : Unary → Op1
+unary_of Unary.First = fst
+unary_of Unary.Last = lst
+unary_of (Unary.Field k) = fld k
+
 abbrev pub binary_of : Binary → Op2
 binary_of (Binary.Compute o) = arith (arith_of o)
 binary_of Binary.Select = sel
@@ -74,6 +84,21 @@ binary_of (Binary.Update k) = upd k
 abbrev pub ternary_of : Ternary → Op3
 ternary_of Ternary.Store = sto
 ternary_of Ternary.Fill = fill
+
+-- a node's operator, where it is one of these
+abbrev pub unary_in : Node → Op1
+unary_in (op1 fst a) = fst
+unary_in (op1 (fld k) a) = fld k
+unary_in _ = lst
+
+abbrev pub binary_in : Node → Op2
+binary_in (op2 (arith o) a b) = arith o
+binary_in (op2 (upd k) a b) = upd k
+binary_in _ = sel
+
+abbrev pub ternary_in : Node → Op3
+ternary_in (op3 sto a b c) = sto
+ternary_in _ = fill
 
 abbrev pub quant_of : Bool → Quant
 quant_of true = all

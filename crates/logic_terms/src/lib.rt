@@ -16,6 +16,7 @@ mod kinds;
 mod laws;
 mod model;
 mod names;
+mod nesting;
 mod operators;
 mod places;
 mod put;
@@ -25,8 +26,6 @@ mod same_sorts;
 mod sort;
 mod starved;
 mod syntax;
-#[cfg(test)]
-mod tests;
 
 pub use constant::is_constant;
 pub use copy_goal::copy_formulas;
@@ -41,6 +40,7 @@ pub use model::{
     ModelSymbolList,
 };
 pub use names::names_nothing;
+pub use nesting::MOST_LEVELS;
 pub use put::{negate, put_in};
 pub use sort::{Sort, SortList};
 pub use starved::Starved;

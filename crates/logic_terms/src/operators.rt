@@ -1,15 +1,24 @@
 //! Operators on computed values.
 
 ghost use Rattle.std.specs.Prelude.{◌≡◌};
-ghost use Rattle.logic_terms.specs.Value.{number};
-ghost use Rattle.logic_terms.specs.Meaning.{apply3, compute as compute_by, first, last};
+ghost use Rattle.logic_terms.specs.Meaning.{apply1, apply3, compute as compute_by};
 ghost use Rattle.logic_terms.specs.Run.{checked, finish, gives};
-ghost use Rattle.logic_terms.specs.Found.{Finds, arith_of, binary_of, found, option_outcome, ternary_of};
+ghost use Rattle.logic_terms.specs.View.{term};
+ghost use Rattle.logic_terms.specs.Found.{Finds, arith_of, binary_in, binary_of, found, option_outcome, ternary_in, ternary_of, unary_in, unary_of};
 
 use crate::arithmetic::calculate;
-use crate::arrays::{fill, first_of, into_number, last_of, select, store, with_field};
+use crate::arrays::{field, fill, first_of, into_number, last_of, select, store, with_field};
 use crate::found::{Arithmetic, Found, TruthFault};
+use crate::syntax::Term;
 use std::alloc::Global;
+
+/// An operator of arrays or records with one operand.
+#[derive(Clone, Copy, Debug, PartialEq, Eq)]
+pub enum Unary {
+    First,
+    Last,
+    Field(u32),
+}
 
 /// An operator with two operands.
 #[derive(Clone, Copy, Debug, PartialEq, Eq)]
@@ -78,16 +87,51 @@ pub fn apply_ternary(
     }
 }
 
-/// The first index of an array, as a value.
-pub fn first_index(v: Found) -> Found
-    ensures { found result ≡ number (first (found v)) }
+/// The value of an operator with one operand.
+pub fn apply_unary(op: Unary, x: Found) -> Found
+    ensures { found result ≡ apply1 (unary_of op) (found x) }
 {
-    Found::Num(first_of(&v))
+    match op {
+        Unary::First => Found::Num(first_of(&x)),
+        Unary::Last => Found::Num(last_of(&x)),
+        Unary::Field(k) => field(k, x),
+    }
 }
 
-/// The last index of an array, as a value.
-pub fn last_index(v: Found) -> Found
-    ensures { found result ≡ number (last (found v)) }
+/// The operator of a term with one operand.
+pub fn unary_operator(t: &Term) -> Unary
+    ensures { unary_of result ≡ unary_in (term t.now) }
 {
-    Found::Num(last_of(&v))
+    match t {
+        Term::Fst(_) => Unary::First,
+        Term::Fld(k, _) => Unary::Field(*k),
+        _ => Unary::Last,
+    }
+}
+
+/// The operator of a term with two operands.
+pub fn binary_operator(t: &Term) -> Binary
+    ensures { binary_of result ≡ binary_in (term t.now) }
+{
+    match t {
+        Term::Add(_, _) => Binary::Compute(Arithmetic::Add),
+        Term::Sub(_, _) => Binary::Compute(Arithmetic::Sub),
+        Term::Mul(_, _) => Binary::Compute(Arithmetic::Mul),
+        Term::Quo(_, _) => Binary::Compute(Arithmetic::Quo),
+        Term::Rem(_, _) => Binary::Compute(Arithmetic::Rem),
+        Term::Mod(_, _) => Binary::Compute(Arithmetic::Mod),
+        Term::Pow(_, _) => Binary::Compute(Arithmetic::Pow),
+        Term::Upd(k, _, _) => Binary::Update(*k),
+        _ => Binary::Select,
+    }
+}
+
+/// The operator of a term with three operands.
+pub fn ternary_operator(t: &Term) -> Ternary
+    ensures { ternary_of result ≡ ternary_in (term t.now) }
+{
+    match t {
+        Term::Sto(_, _, _) => Ternary::Store,
+        _ => Ternary::Fill,
+    }
 }

@@ -1,10 +1,10 @@
 -- Terms and formulas with one text are one.
-use Rattle.std.proofs.Common.{◌≡◌, refl, sym, ◌∙◌, ap, ap₂, ℕ, zero, suc, ◌+◌, ◌<◌, ◌≤◌, Bool, true, false, List, [], ◌∷◌, ◌++◌, arith, append_assoc}
-use Rattle.std.specs.Prelude.{◌==◌, ◌||◌, if◌then◌else◌, ℤ, pos, negsuc}
+use Rattle.std.proofs.Common.{◌≡◌, refl, sym, ◌∙◌, ap, ℕ, Bool, true, false, List, [], ◌∷◌, ◌++◌, arith, append_assoc}
+use Rattle.std.specs.Prelude.{◌==◌, ◌||◌, if◌then◌else◌, pos, negsuc}
 use Rattle.std.proofs.lemmas.Bool.Decides.{nat_tests}
 use Rattle.logic_terms.specs.Node.{Op1, bit, Op2, Op3, OpN, Quant, Node, num, flag, sym as symbol, bound, op1, op2, op3, opn, quant, Nodes, no_nodes, node}
 use Rattle.term_text.specs.Text.{number_text, whole_text, flag_text, op1_text, op2_text, op3_text, opn_text, quant_text, node_text, spaced_text}
-use Rattle.term_text.proofs.Words.{Ends, is_word, split, same_head, same_tail}
+use Rattle.term_text.proofs.Words.{Ends, split, same_head, same_tail}
 use Rattle.term_text.proofs.Numerals.{first_byte, IsDigitByte, number_first, number_front, number_word, whole_word, number_same, whole_same}
 use Rattle.term_text.proofs.Operators.{Operator, one, two, three, many, over, operator_text, operators_same}
 

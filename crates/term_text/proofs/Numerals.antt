@@ -1,11 +1,11 @@
 -- The digits of numbers.
-use Rattle.std.proofs.Common.{◌≡◌, refl, sym, ◌∙◌, ap, ap₂, ℕ, zero, suc, ◌+◌, ◌<◌, ◌≤◌, ◌/◌, ◌%◌, ◌^◌, ◌≢◌, Bool, true, false, List, [], ◌∷◌, ◌++◌, length, arith, map, subst, rules, tests}
-use Rattle.std.specs.Prelude.{◌==◌, ◌||◌, ◌&&◌, not, ℤ, pos, negsuc, if◌then◌else◌, codes}
+use Rattle.std.proofs.Common.{◌≡◌, refl, sym, ◌∙◌, ap, ℕ, zero, suc, ◌+◌, ◌<◌, ◌≤◌, ◌/◌, ◌%◌, ◌^◌, Bool, true, false, List, [], ◌∷◌, ◌++◌, arith, map}
+use Rattle.std.specs.Prelude.{◌==◌, not, ℤ, pos, negsuc, if◌then◌else◌, codes}
 use Rattle.std.specs.List.{AllByRecursion}
-use Rattle.std.specs.Int.Digits.{digits_of, AllBelowBase, number_from_digits}
+use Rattle.std.specs.Int.Digits.{digits_of, number_from_digits}
 use Rattle.std.proofs.lemmas.Int.Digits.{number_digits_of, all_below_base_digits_of, digits_of_step}
 use Rattle.std.proofs.lemmas.Fmt.{decimal_by_steps_wide}
-use Rattle.std.proofs.lemmas.Bool.{and_parts, and_from, false≢true, eqb-true}
+use Rattle.std.proofs.lemmas.Bool.{and_from, eqb-true}
 use Rattle.std.proofs.lemmas.Bool.Decides.{nat_tests}
 use Rattle.std.proofs.lemmas.List.{map-append}
 use Rattle.std.specs.Fmt.{decimal, signed_decimal}

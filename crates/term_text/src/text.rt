@@ -9,6 +9,7 @@ use std::alloc::{AllocError, Global};
 use std::cmp::Ordering;
 
 /// Adds a number in decimal digits.
+#[inline(never)]
 #[tactic(auto, using(crate::proofs::Numerals::number_is))]
 fn push_number(alloc: Global, text: &mut Vec<u8>, number: u32) -> Result<(), AllocError>
     ensures { OnOk result (text.new.items ≡ text.old.items ++ number_text number) }
@@ -18,6 +19,7 @@ fn push_number(alloc: Global, text: &mut Vec<u8>, number: u32) -> Result<(), All
 }
 
 /// Adds a whole number in decimal digits, with a sign where it is negative.
+#[inline(never)]
 #[tactic(auto, using(crate::proofs::Numerals::signed_is))]
 fn push_whole(alloc: Global, text: &mut Vec<u8>, number: i128) -> Result<(), AllocError>
     ensures { OnOk result (text.new.items ≡ text.old.items ++ whole_text number) }
@@ -27,6 +29,7 @@ fn push_whole(alloc: Global, text: &mut Vec<u8>, number: i128) -> Result<(), All
 }
 
 /// Adds a bracket and a name.
+#[inline(never)]
 fn open(text: &mut Vec<u8>, name: &str) -> Result<(), AllocError>
     ensures { OnOk result (text.new.items ≡ text.old.items ++ codes "(" ++ name.now) }
 {

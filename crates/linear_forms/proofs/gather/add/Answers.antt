@@ -1,4 +1,4 @@
-use Rattle.std.proofs.Common.{rules, ◌≡◌, ◌≢◌, ap, sym, ◌∙◌, subst, List, ℤ, pos, ◌+ℤ◌, to_z, of_z}
+use Rattle.std.proofs.Common.{rules, ◌≢◌, ap, sym, ◌∙◌, subst, List, ℤ, pos, of_z}
 use Rattle.std.specs.Prelude.{FitsSigned}
 use Rattle.std.specs.Int.{w128}
 use Rattle.std.proofs.lemmas.Int.{to_z-of_z}

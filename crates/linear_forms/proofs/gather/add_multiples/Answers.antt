@@ -1,4 +1,4 @@
-use Rattle.std.proofs.Common.{rules, ◌≡◌, ◌<◌, ap, ap₂, sym, ◌∙◌, subst, length, ℤ, ◌*ℤ◌, to_z, of_z}
+use Rattle.std.proofs.Common.{rules, ◌<◌, ap, ap₂, sym, ◌∙◌, subst, length, ℤ, ◌*ℤ◌, to_z, of_z}
 use Rattle.std.specs.Prelude.{FitsSigned}
 use Rattle.std.specs.Int.{w128}
 use Rattle.std.proofs.lemmas.Int.{to_z-of_z}
@@ -8,7 +8,6 @@ use Rattle.logic_terms.specs.View.{term}
 use Rattle.linear_forms.specs.Form.{monomial, scaled}
 use Rattle.linear_forms.specs.Fits.{fits, gathering_fits}
 use Rattle.linear_forms.specs.View.{IsFault, parts}
-use Rattle.linear_forms.specs.Places.{at}
 use Rattle.linear_forms.proofs.Gathering.{as_many_scaled, at_scaled, gathering_start, gathering_more, gathering_fault, gathering_raised_fault}
 use Rattle.linear_forms.proofs.gather.add_multiples.Goals as goal
 

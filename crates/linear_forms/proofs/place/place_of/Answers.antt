@@ -1,5 +1,5 @@
-use Rattle.std.proofs.Common.{◌∙◌, sym, refl}
-use Rattle.linear_forms.proofs.Placing.{passed_start, place_more, place_at, place_before, place_end}
+use Rattle.std.proofs.Common.{◌∙◌, sym}
+use Rattle.linear_forms.proofs.Placing.{passed_start, place_more, place_at, place_before}
 use Rattle.linear_forms.proofs.place.place_of.Goals as goal
 
 pub loop-i-init : goal.loop-i-init

@@ -1,10 +1,11 @@
-use Rattle.std.proofs.Common.{◌≡◌, ℕ, ℤ, ◌∷◌, ◌≤ℤ◌, sym, ap, ◌∙◌, pos, ◌+ℤ◌, to_z, of_z, arith}
+use Rattle.std.proofs.Common.{◌≡◌, ℕ, ℤ, ◌∷◌, ◌≤ℤ◌, sym, ap, subst, ◌∙◌, pos, ◌+ℤ◌, to_z, of_z, arith}
 use Rattle.std.proofs.lemmas.Int.{ints}
 use Rattle.std.specs.Int.{w128}
 use Rattle.logic_terms.specs.Value.{number}
-use Rattle.logic_terms.specs.Run.{run}
-use Rattle.logic_terms.specs.View.{formula}
-use Rattle.logic_terms.specs.Found.{variables}
+use Rattle.logic_terms.specs.Run.{run, and_then, finish}
+use Rattle.logic_terms.specs.View.{formula, term}
+use Rattle.logic_terms.specs.Found.{Finds, variables, found, binary_of}
+use Rattle.logic_terms.proofs.Operands.{two_operands}
 use Rattle.logic_terms.proofs.Over.{turn-end, turn-more, turn-smaller}
 use Rattle.logic_terms.proofs.Reach.{variables-over}
 use Rattle.logic_terms.specs.Run.{run_all}
@@ -43,9 +44,15 @@ over-loop-more-smaller-then-more t c =
 
 pub run_terms-loop-t-preserved : goal.run_terms-loop-t-preserved
 run_terms-loop-t-preserved t c =
-    prefix_more (run_all c.args.budget (variables c.args.env.now) (terms c.args.ts.now)) c.as_slice-t-items.result.now c.loop-t.t-index c.loop-t.left c.in_ok-v.rest (variables c.args.env.now) c.t-item.result c.loop-t.values c.push.new.self c.in_ok-v.v
-    c.loop-t.invariant c.loop-t-test.true c.t-item.is c.in_ok-v.ensures c.in_ok-push.ensures.ok
+    prefix_more (run_all c.args.budget (variables c.args.env.now) (terms c.args.ts.now)) c.as_slice-t-items.result.now c.loop-t.t-index c.loop-t.left c.in_ok-v.rest (variables c.args.env.now) c.t-item.result c.loop-t.values c.push_found.new.values c.in_ok-v.v
+    c.loop-t.invariant c.loop-t-test.true c.t-item.is c.in_ok-v.ensures c.in_ok-push_found.ensures
 
 pub run_terms-returns : goal.run_terms-returns
 run_terms-returns t c =
     prefix_done (run_all c.args.budget (variables c.args.env.now) (terms c.args.ts.now)) c.as_slice-t-items.result.now c.loop-t.t-index c.loop-t.left (variables c.args.env.now) c.loop-t.values c.loop-t.invariant c.loop-t-test.false
+
+pub term_parts-returns-in_ok-x-in-Add : goal.term_parts-returns-in_ok-x-in-Add
+term_parts-returns-in_ok-x-in-Add t c =
+    two_operands c.args.budget c.in_ok-x-in-Add.left (variables c.args.env.now) c.args.t.now c.in-Add.a c.in-Add.b (found c.in_ok-x-in-Add.x) (binary_of c.binary_operator.result) c.second.result
+    c.in-Add.is (ap (λ q. run c.args.budget (variables c.args.env.now) (term q)) (sym c.get-in-Add.ensures) ∙ c.in_ok-x-in-Add.ensures) c.binary_operator.ensures
+    (subst (λ q. Finds found (and_then (run c.in_ok-x-in-Add.left (variables c.args.env.now) (term q)) (λ u k. finish (binary_of c.binary_operator.result) (found c.in_ok-x-in-Add.x) u k)) c.second.result) c.get-in-Add-2.ensures c.second.ensures)

@@ -1,8 +1,8 @@
 //! Worked cases of the truth, and the calls that take memory, each once.
 
-use crate::{
-    Formula, Goal, Sort, Starved, Term, TruthFault, is_constant, negate, put_in, same_formula,
-    same_sort, truth,
+use logic_terms::{
+    Formula, Goal, MOST_LEVELS, Sort, Starved, Term, TruthFault, is_constant, negate, put_in,
+    same_formula, same_sort, truth,
 };
 use sqlite_items::{Boxed, Items};
 use std::alloc::Global;
@@ -115,5 +115,43 @@ fn copies_sorts(rt: HostRuntime) -> Result<(), Fail> {
     let sort = Sort::Array(Boxed::new(rt.alloc(), Sort::Num)?);
     let copy = sort.copy(rt.alloc())?;
     assert!(rt; same_sort(&sort, &copy));
+    Ok(())
+}
+
+/// `(and .. (and (<= b0 0) T) .. T)`, with this many levels.
+fn deep(alloc: Global, levels: u32) -> Made<Formula> {
+    let mut f = Formula::Le(Boxed::new(alloc, Term::Bound(0))?, num(alloc, 0)?);
+    for _ in 1..levels {
+        f = Formula::And(Boxed::new(alloc, f)?, Boxed::new(alloc, Formula::True)?);
+    }
+    Ok(f)
+}
+
+/// Whether a formula with this many levels is negated.
+fn negates(alloc: Global, levels: u32) -> bool {
+    match deep(alloc, levels) {
+        Ok(f) => negate(alloc, &f).is_ok(),
+        Err(_) => false,
+    }
+}
+
+/// Whether a term is put into a formula with this many levels.
+fn takes(alloc: Global, levels: u32, t: &Term) -> bool {
+    match deep(alloc, levels) {
+        Ok(f) => put_in(alloc, &f, t).is_ok(),
+        Err(_) => false,
+    }
+}
+
+#[test]
+fn nests_so_deep(rt: HostRuntime) -> Result<(), Fail> {
+    let alloc = rt.alloc();
+    assert_eq!(rt; negates(alloc, MOST_LEVELS - 1), true);
+    assert_eq!(rt; negates(alloc, MOST_LEVELS), false);
+    assert_eq!(rt; takes(alloc, MOST_LEVELS, &Term::Num(1)), true);
+    assert_eq!(rt; takes(alloc, MOST_LEVELS + 1, &Term::Num(1)), false);
+    let sum = Term::Add(num(alloc, 1)?, num(alloc, 1)?);
+    assert_eq!(rt; takes(alloc, MOST_LEVELS - 1, &sum), true);
+    assert_eq!(rt; takes(alloc, MOST_LEVELS, &sum), false);
     Ok(())
 }

@@ -1,0 +1,5 @@
+//! Worked cases of terms, formulas and goals.
+#![tactic(auto)]
+
+#[cfg(test)]
+mod tests;
