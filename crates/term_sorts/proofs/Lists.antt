@@ -2,12 +2,10 @@
 use Rattle.std.proofs.Common.{◌≡◌, ◌≢◌, refl, sym, ◌∙◌, ap, subst, ℕ, zero, suc, ◌<◌, ◌≤◌, ◌+◌, ◌-◌, Bool, true, false, ◌&&◌, List, [], ◌∷◌, ◌++◌, map, length, get_or, drop, Option, Some, None, arith}
 use Rattle.std.specs.List.{slice_get}
 use Rattle.logic_terms.specs.Value.{Kind, numbers, records, Kinds, no_kinds, kind, same_kind, same_kinds}
-use Rattle.logic_terms.specs.Sorts.{sort, sort_step, kinds_in}
+use Rattle.logic_terms.specs.Sorts.{sort, kinds_in}
 use Rattle.logic_terms.specs.Sorting.{Called, nth, nth_kind, given, kind-upd, kind-call}
 use Rattle.logic_terms.specs.Goal.{called_as}
-use Rattle.logic_terms.specs.declared.sort.Sort.{Sort, fold-roll-Sort}
-use Rattle.logic_terms.specs.declared.sort.Sort.TheVariants as s
-use Rattle.logic_terms.specs.declared.sort.Sort.TheOpen.{Sort-F}
+use Rattle.logic_terms.specs.declared.sort.Sort.{Sort}
 use Rattle.logic_terms.specs.declared.goal.Symbol.{Symbol}
 use Rattle.logic_terms.specs.declared.goal.Call.{Call}
 use Rattle.cert_rules.specs.Context.{new_kinds}
@@ -27,16 +25,10 @@ symbol_new (s ∷ ss) n (suc k) h =
     let e : suc k - suc (length ss) ≡ k - length ss = omega arith in
     symbol_new ss n k (omega arith) ∙ ap (nth (new_kinds n)) (sym e)
 
-sort-Num : sort s.Num ≡ numbers
-sort-Num = ap sort (sym s.rolls-Num) ∙ fold-roll-Sort Kind sort_step Sort-F.Num
-
-number_there : (n k : ℕ) → k < n → nth (new_kinds n) k ≡ Some numbers
-number_there zero k h = absurd (omega arith)
-number_there (suc n) zero h = refl
-number_there (suc n) (suc k) h = number_there n k (omega arith)
-
-pub new_there : (n k : ℕ) → k < n → nth (new_kinds n) k ≡ Some (sort s.Num)
-new_there n k h = number_there n k h ∙ ap Some (sym sort-Num)
+pub new_there : (n k : ℕ) → k < n → nth (new_kinds n) k ≡ Some numbers
+new_there zero k h = absurd (omega arith)
+new_there (suc n) zero h = refl
+new_there (suc n) (suc k) h = new_there n k (omega arith)
 
 pub new_past : (n k : ℕ) → n ≤ k → nth (new_kinds n) k ≡ None
 new_past zero k h = refl

@@ -1,5 +1,5 @@
 -- The kinds of some terms, one after another.
-use Rattle.std.proofs.Common.{◌≡◌, refl, sym, ◌∙◌, ap, ap₂, subst, ℕ, zero, suc, ◌<◌, ◌+◌, List, [], ◌∷◌, ◌++◌, length, get_or, take, Option, Some, None, Result, IfOk, arith}
+use Rattle.std.proofs.Common.{◌≡◌, refl, sym, ◌∙◌, ap, ap₂, subst, ℕ, zero, suc, ◌<◌, ◌+◌, Bool, List, [], ◌∷◌, ◌++◌, length, get_or, take, Option, Some, None, Result, IfOk, arith}
 use Rattle.std.proofs.lemmas.List.{take_more}
 use Rattle.logic_terms.specs.Node.{Node, Nodes, no_nodes, node}
 use Rattle.logic_terms.specs.Value.{Kind, numbers, Kinds, no_kinds, kind}
@@ -11,7 +11,7 @@ use Rattle.logic_terms.specs.declared.syntax.Formula.{Formula}
 use Rattle.logic_terms.specs.declared.sort.Sort.{Sort}
 use Rattle.logic_terms.proofs.Lists.{then_node, terms-push}
 use Rattle.cert_rules.specs.Context.{new_kinds}
-use Rattle.term_sorts.specs.Found.{found, kinds}
+use Rattle.term_sorts.specs.Found.{kinds, truths_if}
 
 abbrev then_kind : Kinds → Kind → Kinds
 then_kind no_kinds k = kind k no_kinds
@@ -61,7 +61,5 @@ module _ (s : Signature) (js : List Kind) where
       sym (and_none (node_kind s js (term y))) ∙ ap (and_kind (node_kind s js (term y))) (operands_none items i t (omega arith) is e)
 
 -- under one more quantifier
-pub found_below : {E : Type 0} (s : Signature) (p q : Formula) (n d : ℕ) (r : Result (Option Sort) E) → n ≡ suc d → q ≡ p → IfOk r (λ x. found x ≡ node_kind s (new_kinds n) (formula q)) → IfOk r (λ x. found x ≡ node_kind s (numbers ∷ new_kinds d) (formula p))
-found_below s p q n d r e is h =
-    let more = subst (λ k. IfOk r (λ x. found x ≡ node_kind s (new_kinds k) (formula q))) e h in
-    subst (λ f. IfOk r (λ x. found x ≡ node_kind s (numbers ∷ new_kinds d) (formula f))) is more
+pub truths_below : {E : Type 0} (s : Signature) (p : Formula) (n d : ℕ) (r : Result Bool E) → n ≡ suc d → IfOk r (λ b. truths_if b ≡ node_kind s (new_kinds n) (formula p)) → IfOk r (λ b. truths_if b ≡ node_kind s (numbers ∷ new_kinds d) (formula p))
+truths_below s p n d r e h = subst (λ k. IfOk r (λ b. truths_if b ≡ node_kind s (new_kinds k) (formula p))) e h

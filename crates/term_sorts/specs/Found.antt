@@ -1,8 +1,9 @@
 -- The kinds of sorts that were found.
-use Rattle.std.specs.Prelude.{ℕ, List, map, Option, Some, None}
-use Rattle.logic_terms.specs.Value.{Kind, Kinds}
+use Rattle.std.specs.Prelude.{ℕ, Bool, true, false, List, map, Option, Some, None}
+use Rattle.logic_terms.specs.Node.{OpN, fields, call}
+use Rattle.logic_terms.specs.Value.{Kind, numbers, truths, Kinds, same_kind}
 use Rattle.logic_terms.specs.Sorts.{sort, kinds_in}
-use Rattle.logic_terms.specs.Sorting.{Signature}
+use Rattle.logic_terms.specs.Sorting.{Signature, given}
 use Rattle.logic_terms.specs.Goal.{problem}
 use Rattle.logic_terms.specs.declared.sort.Sort.{Sort}
 use Rattle.cert_rules.specs.Context.{with_new}
@@ -18,6 +19,17 @@ kinds ss = kinds_in (map sort ss)
 abbrev pub found_all : Option (List Sort) → Option Kinds
 found_all (Some ss) = Some (kinds ss)
 found_all None = None
+
+abbrev pub numbers_if : Bool → Option Kind
+numbers_if b = given b numbers
+
+abbrev pub truths_if : Bool → Option Kind
+truths_if b = given b truths
+
+-- of a call, or of a record
+abbrev pub list_operator : Option ℕ → OpN
+list_operator (Some k) = call k
+list_operator None = fields
 
 -- the goal's symbols, then the new ones; the goal's calls
 abbrev pub signature : Scope → Signature

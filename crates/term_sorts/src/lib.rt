@@ -4,7 +4,5 @@
 mod operators;
 mod scope;
 mod sorting;
-#[cfg(test)]
-mod tests;
 
 pub use sorting::{is_formula, is_number, sort_of};

@@ -1,115 +1,103 @@
 //! The sorts of operators' values, from those of their operands, and none where an operand has none or one that does not fit.
+//!
+//! What makes, compares or drops sorts is never inlined, since the functions that call it recurse and are to leave the stack
+//! alone.
 
-ghost use Rattle.std.specs.Prelude.{◌≡◌, IfOk};
-ghost use Rattle.logic_terms.specs.Node.{Arith, arith, bit, conj, disj, eq, fill, fld, fst, iff, ite, le, lst, neg, sel, sto, tru, upd};
-ghost use Rattle.logic_terms.specs.Value.{records};
+ghost use Rattle.std.specs.Prelude.{◌≡◌, ◌&&◌, ◌++◌, ◌∷◌, [], Some, IfOk, OnOk};
+ghost use Rattle.logic_terms.specs.Node.{bit, conj, disj, eq, fill, fld, fst, iff, ite, lst, neg, sel, sto, tru, upd};
+ghost use Rattle.logic_terms.specs.Value.{numbers, records, truths};
 ghost use Rattle.logic_terms.specs.Sorts.{sort};
-ghost use Rattle.logic_terms.specs.Sorting.{given, kind-upd, kind_over, nth_kind, on1, on2, on3};
-ghost use Rattle.cert_rules.specs.Context.{is_some_numbers, is_some_truths};
-ghost use Rattle.term_sorts.specs.Found.{found, kinds};
+ghost use Rattle.logic_terms.specs.Sorting.{given, kind-upd, kindn, nth_kind, on1, on2, on3};
+ghost use Rattle.cert_rules.specs.Context.{is_some_numbers};
+ghost use Rattle.term_sorts.specs.Found.{found, kinds, list_operator, numbers_if, signature, truths_if};
 
+use crate::scope::{FoundSort, Scope, call_sort};
 use logic_terms::{Sort, SortList, Starved, same_sort};
 use sqlite_items::{Boxed, at};
 use std::alloc::Global;
 
 /// Whether it is the sort of numbers.
-pub fn is_num(s: &Option<Sort>) -> bool
-    ensures { result ≡ is_some_numbers (found s.now) }
+#[inline(never)]
+pub fn is_num(s: FoundSort) -> bool
+    ensures { result ≡ is_some_numbers (found s) }
 {
     match s {
-        Some(Sort::Num) => true,
-        _ => false,
+        Some(found) => match found.into_inner() {
+            Sort::Num => true,
+            _ => false,
+        },
+        None => false,
     }
 }
 
 /// Whether it is the sort of truth values.
-pub fn is_truth(s: &Option<Sort>) -> bool
-    ensures { result ≡ is_some_truths (found s.now) }
+#[inline(never)]
+pub fn is_truth(s: FoundSort) -> bool
+    ensures { truths_if result ≡ on1 tru (found s) }
 {
     match s {
-        Some(Sort::Truth) => true,
+        Some(found) => match found.into_inner() {
+            Sort::Truth => true,
+            _ => false,
+        },
+        None => false,
+    }
+}
+
+/// Whether it is the sort of an array, whose bounds are numbers.
+#[inline(never)]
+pub fn is_array(s: FoundSort) -> bool
+    ensures first { numbers_if result ≡ on1 fst (found s) }
+    ensures last { numbers_if result ≡ on1 lst (found s) }
+{
+    match s {
+        Some(found) => match found.into_inner() {
+            Sort::Array(_) => true,
+            _ => false,
+        },
+        None => false,
+    }
+}
+
+/// Whether both operands are as they are to be, as the formulas of `and`, `or` and `iff`.
+pub fn both(a: bool, b: bool) -> bool
+    ensures value { result ≡ (a && b) }
+    ensures conjunction { truths_if result ≡ on2 conj (truths_if a) (truths_if b) }
+    ensures disjunction { truths_if result ≡ on2 disj (truths_if a) (truths_if b) }
+    ensures equivalence { truths_if result ≡ on2 iff (truths_if a) (truths_if b) }
+{
+    a && b
+}
+
+/// Whether `=` is well sorted between terms of these sorts.
+#[inline(never)]
+pub fn can_equate(a: FoundSort, b: FoundSort) -> bool
+    ensures { truths_if result ≡ on2 eq (found a) (found b) }
+{
+    match (a, b) {
+        (Some(x), Some(y)) => equates(x.get(), y.get()),
         _ => false,
     }
 }
 
-/// Of `+`, `-`, `*` and the others over whole numbers.
-pub fn sort_of_arithmetic(a: &Option<Sort>, b: &Option<Sort>) -> Option<Sort>
-    ensures { (o : Arith) → found result ≡ on2 (arith o) (found a.now) (found b.now) }
+/// Whether two sorts are the same, and not that of truth values.
+fn equates(a: &Sort, b: &Sort) -> bool
+    ensures { truths_if result ≡ on2 eq (Some (sort a.now)) (Some (sort b.now)) }
 {
-    if is_num(a) && is_num(b) {
-        Some(Sort::Num)
-    } else {
-        None
+    match a {
+        Sort::Truth => false,
+        _ => same_sort(a, b),
     }
 }
 
-/// Of `<=`.
-pub fn sort_of_order(a: &Option<Sort>, b: &Option<Sort>) -> Option<Sort>
-    ensures { found result ≡ on2 le (found a.now) (found b.now) }
-{
-    if is_num(a) && is_num(b) {
-        Some(Sort::Truth)
-    } else {
-        None
-    }
-}
-
-/// Of `and`, `or` and `iff`.
-pub fn sort_of_connective(a: &Option<Sort>, b: &Option<Sort>) -> Option<Sort>
-    ensures conjunction { found result ≡ on2 conj (found a.now) (found b.now) }
-    ensures disjunction { found result ≡ on2 disj (found a.now) (found b.now) }
-    ensures equivalence { found result ≡ on2 iff (found a.now) (found b.now) }
-{
-    if is_truth(a) && is_truth(b) {
-        Some(Sort::Truth)
-    } else {
-        None
-    }
-}
-
-/// Of `not`, `tru` and `bit`.
-pub fn sort_of_truth(a: &Option<Sort>) -> Option<Sort>
-    ensures negation { found result ≡ on1 neg (found a.now) }
-    ensures formula { found result ≡ on1 tru (found a.now) }
-    ensures term { found result ≡ on1 bit (found a.now) }
-{
-    if is_truth(a) { Some(Sort::Truth) } else { None }
-}
-
-/// Of `=`.
-pub fn sort_of_equation(a: &Option<Sort>, b: &Option<Sort>) -> Option<Sort>
-    ensures { found result ≡ on2 eq (found a.now) (found b.now) }
+/// Of `ite`, where its condition is well sorted.
+#[inline(never)]
+pub fn sort_of_choice(a: FoundSort, b: FoundSort) -> FoundSort
+    ensures { found result ≡ on3 ite (Some truths) (found a) (found b) }
 {
     match (a, b) {
         (Some(x), Some(y)) => {
-            if same_sort(x, y) && !is_truth(a) {
-                Some(Sort::Truth)
-            } else {
-                None
-            }
-        }
-        _ => None,
-    }
-}
-
-/// Of `all` and `any`.
-pub fn sort_of_quantifier(l: &Option<Sort>, h: &Option<Sort>, p: &Option<Sort>) -> Option<Sort>
-    ensures { found result ≡ kind_over (found l.now) (found h.now) (found p.now) }
-{
-    if is_num(l) && is_num(h) && is_truth(p) {
-        Some(Sort::Truth)
-    } else {
-        None
-    }
-}
-
-/// Of `ite`.
-pub fn sort_of_choice(c: &Option<Sort>, a: Option<Sort>, b: &Option<Sort>) -> Option<Sort>
-    ensures { found result ≡ on3 ite (found c.now) (found a) (found b.now) }
-{
-    match (a, b) {
-        (Some(x), Some(y)) => {
-            if is_truth(c) && same_sort(&x, y) {
+            if same_sort(x.get(), y.get()) {
                 Some(x)
             } else {
                 None
@@ -119,41 +107,39 @@ pub fn sort_of_choice(c: &Option<Sort>, a: Option<Sort>, b: &Option<Sort>) -> Op
     }
 }
 
-/// Of `sel`.
-pub fn sort_of_item(a: Option<Sort>, i: &Option<Sort>) -> Option<Sort>
-    ensures { found result ≡ on2 sel (found a) (found i.now) }
+/// Of `sel` at a number.
+#[inline(never)]
+pub fn sort_of_item(a: FoundSort) -> FoundSort
+    ensures { found result ≡ on2 sel (found a) (Some numbers) }
 {
     match a {
-        Some(Sort::Array(item)) => {
-            if is_num(i) {
-                Some(item.into_inner())
-            } else {
-                None
-            }
-        }
-        _ => None,
+        Some(array) => match array.into_inner() {
+            Sort::Array(item) => Some(item),
+            _ => None,
+        },
+        None => None,
     }
 }
 
-/// Of `fst` and `lst`.
-pub fn sort_of_bound(a: &Option<Sort>) -> Option<Sort>
-    ensures first { found result ≡ on1 fst (found a.now) }
-    ensures last { found result ≡ on1 lst (found a.now) }
+/// Whether an array of this sort has such items.
+fn holds_item(array: &Sort, item: &Sort) -> bool
+    ensures { given result (sort array.now) ≡ on3 sto (Some (sort array.now)) (Some numbers) (Some (sort item.now)) }
 {
-    match a {
-        Some(Sort::Array(_)) => Some(Sort::Num),
-        _ => None,
+    match array {
+        Sort::Array(old) => same_sort(old.get(), item),
+        _ => false,
     }
 }
 
-/// Of `sto`.
-pub fn sort_of_store(a: Option<Sort>, i: &Option<Sort>, v: &Option<Sort>) -> Option<Sort>
-    ensures { found result ≡ on3 sto (found a) (found i.now) (found v.now) }
+/// Of `sto` at a number.
+#[inline(never)]
+pub fn sort_of_store(a: FoundSort, v: FoundSort) -> FoundSort
+    ensures { found result ≡ on3 sto (found a) (Some numbers) (found v) }
 {
     match (a, v) {
-        (Some(Sort::Array(item)), Some(new)) => {
-            if is_num(i) && same_sort(item.get(), new) {
-                Some(Sort::Array(item))
+        (Some(array), Some(item)) => {
+            if holds_item(array.get(), item.get()) {
+                Some(array)
             } else {
                 None
             }
@@ -162,45 +148,46 @@ pub fn sort_of_store(a: Option<Sort>, i: &Option<Sort>, v: &Option<Sort>) -> Opt
     }
 }
 
-/// Of `fill`.
-pub fn sort_of_fill(
-    alloc: Global,
-    f: &Option<Sort>,
-    l: &Option<Sort>,
-    v: Option<Sort>,
-) -> Result<Option<Sort>, Starved>
-    ensures { IfOk result (λ r. found r ≡ on3 fill (found f.now) (found l.now) (found v)) }
+/// Of `fill` between numbers.
+#[inline(never)]
+pub fn sort_of_fill(alloc: Global, v: FoundSort) -> Result<FoundSort, Starved>
+    ensures { IfOk result (λ r. found r ≡ on3 fill (Some numbers) (Some numbers) (found v)) }
 {
     match v {
-        Some(item) => {
-            if is_num(f) && is_num(l) {
-                Ok(Some(Sort::Array(Boxed::new(alloc, item)?)))
-            } else {
-                Ok(None)
-            }
-        }
+        Some(item) => Ok(Some(Boxed::new(alloc, Sort::Array(item))?)),
         None => Ok(None),
     }
 }
 
 /// The sort of field `k` of a record.
 #[tactic(auto, using(crate::proofs::Lists::field_there, crate::proofs::Lists::field_past))]
-fn field_sort(alloc: Global, k: u32, fields: &SortList) -> Result<Option<Sort>, Starved>
+fn field_sort(alloc: Global, k: u32, fields: &SortList) -> Result<FoundSort, Starved>
     ensures { IfOk result (λ s. found s ≡ nth_kind (kinds fields.now) k) }
 {
     match at(fields.as_slice(), k as usize) {
-        Some(field) => Ok(Some(field.copy(alloc)?)),
+        Some(field) => Ok(Some(Boxed::new(alloc, field.copy(alloc)?)?)),
         None => Ok(None),
     }
 }
 
+/// The sort of field `k` of what has this sort.
+fn sort_in(alloc: Global, k: u32, holder: &Sort) -> Result<FoundSort, Starved>
+    ensures { IfOk result (λ s. found s ≡ on1 (fld k) (Some (sort holder.now))) }
+{
+    match holder {
+        Sort::Record(fields) => field_sort(alloc, k, fields),
+        _ => Ok(None),
+    }
+}
+
 /// Of `fld`.
-pub fn sort_of_field(alloc: Global, k: u32, r: &Option<Sort>) -> Result<Option<Sort>, Starved>
-    ensures { IfOk result (λ s. found s ≡ on1 (fld k) (found r.now)) }
+#[inline(never)]
+pub fn sort_of_field(alloc: Global, k: u32, r: FoundSort) -> Result<FoundSort, Starved>
+    ensures { IfOk result (λ s. found s ≡ on1 (fld k) (found r)) }
 {
     match r {
-        Some(Sort::Record(fields)) => field_sort(alloc, k, fields),
-        _ => Ok(None),
+        Some(holder) => sort_in(alloc, k, holder.get()),
+        None => Ok(None),
     }
 }
 
@@ -215,18 +202,53 @@ fn has_field(fields: &SortList, k: u32, new: &Sort) -> bool
     }
 }
 
+/// Whether what has this sort has a field `k` of the sort `new`.
+fn holds_field(holder: &Sort, k: u32, new: &Sort) -> bool
+    ensures { given result (sort holder.now) ≡ on2 (upd k) (Some (sort holder.now)) (Some (sort new.now)) }
+{
+    match holder {
+        Sort::Record(fields) => has_field(fields, k, new),
+        _ => false,
+    }
+}
+
 /// Of `upd`.
-pub fn sort_of_update(k: u32, r: Option<Sort>, v: &Option<Sort>) -> Option<Sort>
-    ensures { found result ≡ on2 (upd k) (found r) (found v.now) }
+#[inline(never)]
+pub fn sort_of_update(k: u32, r: FoundSort, v: FoundSort) -> FoundSort
+    ensures { found result ≡ on2 (upd k) (found r) (found v) }
 {
     match (r, v) {
-        (Some(Sort::Record(fields)), Some(new)) => {
-            if has_field(&fields, k, new) {
-                Some(Sort::Record(fields))
+        (Some(holder), Some(new)) => {
+            if holds_field(holder.get(), k, new.get()) {
+                Some(holder)
             } else {
                 None
             }
         }
         _ => None,
     }
+}
+
+/// Of a call, or of a record, at operands of these sorts.
+#[inline(never)]
+pub fn sort_of_list(
+    alloc: Global,
+    scope: &Scope,
+    call: Option<u32>,
+    sorts: SortList,
+) -> Result<FoundSort, Starved>
+    ensures { IfOk result (λ r. found r ≡ kindn (signature scope.now) (list_operator call) (kinds sorts)) }
+{
+    match call {
+        Some(k) => call_sort(alloc, scope, k, &sorts),
+        None => Ok(Some(Boxed::new(alloc, Sort::Record(sorts))?)),
+    }
+}
+
+/// Adds a sort to a list.
+#[inline(never)]
+pub fn push_sort(sorts: &mut SortList, s: Boxed<Sort>) -> Result<(), Starved>
+    ensures { OnOk result (sorts.new ≡ sorts.old ++ s ∷ []) }
+{
+    Ok(sorts.push(s.into_inner())?)
 }

@@ -4,10 +4,14 @@ ghost use Rattle.std.specs.Prelude.{◌≡◌, IfOk};
 ghost use Rattle.logic_terms.specs.Sorting.{kind-call, nth};
 ghost use Rattle.logic_terms.specs.Value.{same_kinds};
 ghost use Rattle.cert_rules.specs.Context.{new_kinds};
-ghost use Rattle.term_sorts.specs.Found.{found, kinds, signature};
+ghost use Rattle.term_sorts.specs.Found.{found, kinds, numbers_if, signature, truths_if};
 
 use logic_terms::{Goal, Sort, SortList, Starved, same_sort};
+use sqlite_items::Boxed;
 use std::alloc::Global;
+
+/// The sort that was found, or none.
+pub type FoundSort = Option<Boxed<Sort>>;
 
 /// The symbols and the calls of a goal, with new symbols of numbers after the goal's.
 #[derive(Drop)]
@@ -16,26 +20,55 @@ pub struct Scope<'a> {
     pub fresh: u32,
 }
 
+/// The sort of numbers where `is` holds, and else none.
+#[inline(never)]
+pub fn number_if(alloc: Global, is: bool) -> Result<FoundSort, Starved>
+    ensures { IfOk result (λ r. found r ≡ numbers_if is) }
+{
+    if is {
+        Ok(Some(Boxed::new(alloc, Sort::Num)?))
+    } else {
+        Ok(None)
+    }
+}
+
+/// The sort of truth values where `is` holds, and else none.
+#[inline(never)]
+pub fn truth_if(alloc: Global, is: bool) -> Result<FoundSort, Starved>
+    ensures { IfOk result (λ r. found r ≡ truths_if is) }
+{
+    if is {
+        Ok(Some(Boxed::new(alloc, Sort::Truth)?))
+    } else {
+        Ok(None)
+    }
+}
+
 /// The sort of variable `k` under `depth` quantifiers, or of new symbol `k` of `depth`: all are numbers.
 #[tactic(auto, using(crate::proofs::Lists::new_there, crate::proofs::Lists::new_past))]
-pub fn variable_sort(k: u64, depth: u64) -> Option<Sort>
-    ensures { found result ≡ nth (new_kinds depth) k }
+pub fn variable_sort(alloc: Global, k: u64, depth: u64) -> Result<FoundSort, Starved>
+    ensures { IfOk result (λ r. found r ≡ nth (new_kinds depth) k) }
 {
-    if k < depth { Some(Sort::Num) } else { None }
+    if k < depth {
+        number_if(alloc, true)
+    } else {
+        Ok(None)
+    }
 }
 
 /// The sort of symbol `k`.
+#[inline(never)]
 #[tactic(auto, using(crate::proofs::Lists::symbol_there, crate::proofs::Lists::symbol_new))]
-pub fn symbol_sort(alloc: Global, scope: &Scope, k: u32) -> Result<Option<Sort>, Starved>
+pub fn symbol_sort(alloc: Global, scope: &Scope, k: u32) -> Result<FoundSort, Starved>
     ensures { IfOk result (λ r. found r ≡ nth (signature scope.now).symbols k) }
 {
     let symbols = scope.goal.symbols.as_slice();
     let k = k as usize;
     if k < symbols.len() {
-        Ok(Some(symbols[k].sort.copy(alloc)?))
+        Ok(Some(Boxed::new(alloc, symbols[k].sort.copy(alloc)?)?))
     } else {
         let new = (k - symbols.len()) as u64;
-        Ok(variable_sort(new, u64::from(scope.fresh)))
+        variable_sort(alloc, new, u64::from(scope.fresh))
     }
 }
 
@@ -61,7 +94,7 @@ pub fn call_sort(
     scope: &Scope,
     k: u32,
     arguments: &SortList,
-) -> Result<Option<Sort>, Starved>
+) -> Result<FoundSort, Starved>
     ensures { IfOk result (λ r. found r ≡ kind-call (nth (signature scope.now).calls k) (kinds arguments.now)) }
 {
     let calls = scope.goal.calls.as_slice();
@@ -71,7 +104,7 @@ pub fn call_sort(
     }
     let call = &calls[k];
     if same_sorts(&call.arguments, arguments) {
-        Ok(Some(call.answer.copy(alloc)?))
+        Ok(Some(Boxed::new(alloc, call.answer.copy(alloc)?)?))
     } else {
         Ok(None)
     }

@@ -1,210 +1,280 @@
 //! The sorts of terms and formulas.
+//!
+//! Terms nest deep: what recurses holds boxes and truth values alone, and none of it is inlined.
 
-ghost use Rattle.std.specs.Prelude.{◌≡◌, ◌∷◌, [], IfOk};
-ghost use Rattle.logic_terms.specs.Value.{numbers};
-ghost use Rattle.logic_terms.specs.Node.{call, fields};
-ghost use Rattle.logic_terms.specs.Sorting.{node_kind, node_kinds, onn};
+ghost use Rattle.std.specs.Prelude.{◌≡◌, ◌∷◌, [], Some, IfOk};
+ghost use Rattle.logic_terms.specs.Value.{numbers, truths};
+ghost use Rattle.logic_terms.specs.Node.{eq, fill, fld, fst, ite, lst, sel, sto, tru, upd};
+ghost use Rattle.logic_terms.specs.Sorting.{node_kind, node_kinds, on1, on2, on3, onn};
 ghost use Rattle.logic_terms.specs.Goal.{problem};
 ghost use Rattle.logic_terms.specs.View.{term, formula, terms};
 ghost use Rattle.cert_rules.specs.Context.{is_some_numbers, is_some_truths, new_kinds, with_new};
-ghost use Rattle.term_sorts.specs.Found.{found, found_all, signature};
+ghost use Rattle.term_sorts.specs.Found.{found, found_all, list_operator, numbers_if, signature, truths_if};
 
 use crate::operators::{
-    is_num, is_truth, sort_of_arithmetic, sort_of_bound, sort_of_choice, sort_of_connective,
-    sort_of_equation, sort_of_field, sort_of_fill, sort_of_item, sort_of_order, sort_of_quantifier,
-    sort_of_store, sort_of_truth, sort_of_update,
+    both, can_equate, is_array, is_num, is_truth, push_sort, sort_of_choice, sort_of_field,
+    sort_of_fill, sort_of_item, sort_of_list, sort_of_store, sort_of_update,
 };
-use crate::scope::{Scope, call_sort, symbol_sort, variable_sort};
-use logic_terms::{Formula, Goal, Sort, SortList, Starved, Term, TermList};
+use crate::scope::{FoundSort, Scope, number_if, symbol_sort, truth_if, variable_sort};
+use logic_terms::{Formula, Goal, Sort, Starved, Term, TermList};
 use sqlite_items::{Boxed, Items};
 use std::alloc::Global;
 
-/// Of operands in order, or none where one of them has none.
+/// Whether a term is a number.
+#[cycle(sorting)]
+#[inline(never)]
+fn is_num_term(alloc: Global, scope: &Scope, t: &Term, depth: u64) -> Result<bool, Starved>
+    ensures { IfOk result (λ b. b ≡ is_some_numbers (node_kind (signature scope.now) (new_kinds depth) (term t.now))) }
+{
+    Ok(is_num(sort_of_term(alloc, scope, t, depth)?))
+}
+
+/// Whether a term is a truth value.
+#[cycle(sorting)]
+#[inline(never)]
+fn is_truth_term(alloc: Global, scope: &Scope, t: &Term, depth: u64) -> Result<bool, Starved>
+    ensures { IfOk result (λ b. truths_if b ≡ on1 tru (node_kind (signature scope.now) (new_kinds depth) (term t.now))) }
+{
+    Ok(is_truth(sort_of_term(alloc, scope, t, depth)?))
+}
+
+/// Whether a term is an array.
+#[cycle(sorting)]
+#[inline(never)]
+fn is_array_term(alloc: Global, scope: &Scope, t: &Term, depth: u64) -> Result<bool, Starved>
+    ensures first { IfOk result (λ b. numbers_if b ≡ on1 fst (node_kind (signature scope.now) (new_kinds depth) (term t.now))) }
+    ensures last { IfOk result (λ b. numbers_if b ≡ on1 lst (node_kind (signature scope.now) (new_kinds depth) (term t.now))) }
+{
+    Ok(is_array(sort_of_term(alloc, scope, t, depth)?))
+}
+
+/// Of an item of an array.
+#[cycle(sorting)]
+#[inline(never)]
+fn item_sort(alloc: Global, scope: &Scope, a: &Term, depth: u64) -> Result<FoundSort, Starved>
+    ensures { IfOk result (λ r. found r ≡ on2 sel (node_kind (signature scope.now) (new_kinds depth) (term a.now)) (Some numbers)) }
+{
+    Ok(sort_of_item(sort_of_term(alloc, scope, a, depth)?))
+}
+
+/// Of an array that is filled with a term.
+#[cycle(sorting)]
+#[inline(never)]
+fn filled_sort(alloc: Global, scope: &Scope, v: &Term, depth: u64) -> Result<FoundSort, Starved>
+    ensures { IfOk result (λ r. found r ≡ on3 fill (Some numbers) (Some numbers) (node_kind (signature scope.now) (new_kinds depth) (term v.now))) }
+{
+    sort_of_fill(alloc, sort_of_term(alloc, scope, v, depth)?)
+}
+
+/// Of field `k` of a record.
+#[cycle(sorting)]
+#[inline(never)]
+fn field_sort(
+    alloc: Global,
+    scope: &Scope,
+    r: &Term,
+    k: u32,
+    depth: u64,
+) -> Result<FoundSort, Starved>
+    ensures { IfOk result (λ s. found s ≡ on1 (fld k) (node_kind (signature scope.now) (new_kinds depth) (term r.now))) }
+{
+    sort_of_field(alloc, k, sort_of_term(alloc, scope, r, depth)?)
+}
+
+/// Of a choice between what has the sort `a` and a term.
+#[cycle(sorting)]
+#[inline(never)]
+fn chosen_sort(
+    alloc: Global,
+    scope: &Scope,
+    b: &Term,
+    a: FoundSort,
+    depth: u64,
+) -> Result<FoundSort, Starved>
+    ensures { IfOk result (λ r. found r ≡ on3 ite (Some truths) (found a) (node_kind (signature scope.now) (new_kinds depth) (term b.now))) }
+{
+    Ok(sort_of_choice(a, sort_of_term(alloc, scope, b, depth)?))
+}
+
+/// Of what has the sort `a` with a term stored at a number.
+#[cycle(sorting)]
+#[inline(never)]
+fn stored_sort(
+    alloc: Global,
+    scope: &Scope,
+    v: &Term,
+    a: FoundSort,
+    depth: u64,
+) -> Result<FoundSort, Starved>
+    ensures { IfOk result (λ r. found r ≡ on3 sto (found a) (Some numbers) (node_kind (signature scope.now) (new_kinds depth) (term v.now))) }
+{
+    Ok(sort_of_store(a, sort_of_term(alloc, scope, v, depth)?))
+}
+
+/// Of what has the sort `r` with a term as its field `k`.
+#[cycle(sorting)]
+#[inline(never)]
+fn updated_sort(
+    alloc: Global,
+    scope: &Scope,
+    v: &Term,
+    k: u32,
+    r: FoundSort,
+    depth: u64,
+) -> Result<FoundSort, Starved>
+    ensures { IfOk result (λ s. found s ≡ on2 (upd k) (found r) (node_kind (signature scope.now) (new_kinds depth) (term v.now))) }
+{
+    Ok(sort_of_update(k, r, sort_of_term(alloc, scope, v, depth)?))
+}
+
+/// Whether `=` is well sorted between what has the sort `a` and a term.
+#[cycle(sorting)]
+#[inline(never)]
+fn equates_term(
+    alloc: Global,
+    scope: &Scope,
+    b: &Term,
+    a: FoundSort,
+    depth: u64,
+) -> Result<bool, Starved>
+    ensures { IfOk result (λ r. truths_if r ≡ on2 eq (found a) (node_kind (signature scope.now) (new_kinds depth) (term b.now))) }
+{
+    Ok(can_equate(a, sort_of_term(alloc, scope, b, depth)?))
+}
+
+/// Of a call, or of a record, at these operands.
 #[tactic(auto, using(crate::proofs::Operands::operands_more, crate::proofs::Operands::operands_none))]
 #[cycle(sorting)]
-fn sorts_of_terms(
+#[inline(never)]
+fn list_sort(
     alloc: Global,
     scope: &Scope,
     ts: &TermList,
+    call: Option<u32>,
     depth: u64,
-) -> Result<Option<SortList>, Starved>
-    ensures { IfOk result (λ r. found_all r ≡ node_kinds (signature scope.now) (new_kinds depth) (terms ts.now)) }
+) -> Result<FoundSort, Starved>
+    ensures { IfOk result (λ r. found r ≡ onn (signature scope.now) (list_operator call) (node_kinds (signature scope.now) (new_kinds depth) (terms ts.now))) }
 {
     let mut sorts = Items::new(alloc);
     for t in ts.as_slice() {
         match sort_of_term(alloc, scope, t, depth)? {
-            Some(sort) => sorts.push(sort)?,
+            Some(sort) => push_sort(&mut sorts, sort)?,
             None => return Ok(None),
         }
     }
-    Ok(Some(sorts))
+    sort_of_list(alloc, scope, call, sorts)
 }
 
-/// Of a record of these fields.
+/// Of a term under `depth` quantifiers.
+#[tactic(auto, using(crate::proofs::Fitting::index_there, crate::proofs::Fitting::index_bad, crate::proofs::Fitting::limits_there, crate::proofs::Fitting::limits_bad, crate::proofs::Fitting::store_there, crate::proofs::Fitting::store_bad, crate::proofs::Fitting::choice_there, crate::proofs::Fitting::choice_bad))]
 #[cycle(sorting)]
-fn sort_of_record(
-    alloc: Global,
-    scope: &Scope,
-    ts: &TermList,
-    depth: u64,
-) -> Result<Option<Sort>, Starved>
-    ensures { IfOk result (λ r. found r ≡ onn (signature scope.now) fields (node_kinds (signature scope.now) (new_kinds depth) (terms ts.now))) }
+#[inline(never)]
+fn sort_of_term(alloc: Global, scope: &Scope, t: &Term, depth: u64) -> Result<FoundSort, Starved>
+    ensures { IfOk result (λ r. found r ≡ node_kind (signature scope.now) (new_kinds depth) (term t.now)) }
 {
-    match sorts_of_terms(alloc, scope, ts, depth)? {
-        Some(sorts) => Ok(Some(Sort::Record(sorts))),
-        None => Ok(None),
+    match t {
+        Term::Num(_) => number_if(alloc, true),
+        Term::Sym(k) => symbol_sort(alloc, scope, *k),
+        Term::Bound(k) => variable_sort(alloc, u64::from(*k), depth),
+        Term::Add(a, b)
+        | Term::Sub(a, b)
+        | Term::Mul(a, b)
+        | Term::Quo(a, b)
+        | Term::Rem(a, b)
+        | Term::Mod(a, b)
+        | Term::Pow(a, b) => {
+            let first = is_num_term(alloc, scope, a.get(), depth)?;
+            let second = is_num_term(alloc, scope, b.get(), depth)?;
+            number_if(alloc, both(first, second))
+        }
+        Term::Bit(p) => truth_if(alloc, is_sorted(alloc, scope, p.get(), depth)?),
+        Term::Ite(p, a, b) => {
+            if is_sorted(alloc, scope, p.get(), depth)? {
+                let sort = sort_of_term(alloc, scope, a.get(), depth)?;
+                chosen_sort(alloc, scope, b.get(), sort, depth)
+            } else {
+                Ok(None)
+            }
+        }
+        Term::Sel(a, i) => {
+            if is_num_term(alloc, scope, i.get(), depth)? {
+                item_sort(alloc, scope, a.get(), depth)
+            } else {
+                Ok(None)
+            }
+        }
+        Term::Sto(a, i, v) => {
+            if is_num_term(alloc, scope, i.get(), depth)? {
+                let sort = sort_of_term(alloc, scope, a.get(), depth)?;
+                stored_sort(alloc, scope, v.get(), sort, depth)
+            } else {
+                Ok(None)
+            }
+        }
+        Term::Fst(a) => number_if(alloc, is_array_term(alloc, scope, a.get(), depth)?),
+        Term::Lst(a) => number_if(alloc, is_array_term(alloc, scope, a.get(), depth)?),
+        Term::Fill(f, l, v) => {
+            let first = is_num_term(alloc, scope, f.get(), depth)?;
+            let last = is_num_term(alloc, scope, l.get(), depth)?;
+            if first && last {
+                filled_sort(alloc, scope, v.get(), depth)
+            } else {
+                Ok(None)
+            }
+        }
+        Term::Rec(ts) => list_sort(alloc, scope, ts, None, depth),
+        Term::Fld(k, r) => field_sort(alloc, scope, r.get(), *k, depth),
+        Term::Upd(k, r, v) => {
+            let sort = sort_of_term(alloc, scope, r.get(), depth)?;
+            updated_sort(alloc, scope, v.get(), *k, sort, depth)
+        }
+        Term::Call(k, ts) => list_sort(alloc, scope, ts, Some(*k), depth),
     }
 }
 
-/// Of call `k` at these arguments.
+/// Whether a body is well sorted under one more quantifier. No memory holds 2**64 quantifiers.
 #[cycle(sorting)]
-fn sort_of_call(
-    alloc: Global,
-    scope: &Scope,
-    k: u32,
-    ts: &TermList,
-    depth: u64,
-) -> Result<Option<Sort>, Starved>
-    ensures { IfOk result (λ r. found r ≡ onn (signature scope.now) (call k) (node_kinds (signature scope.now) (new_kinds depth) (terms ts.now))) }
-{
-    match sorts_of_terms(alloc, scope, ts, depth)? {
-        Some(sorts) => call_sort(alloc, scope, k, &sorts),
-        None => Ok(None),
-    }
-}
-
-/// Of a body under one more quantifier. No memory holds 2**64 quantifiers.
-#[cycle(sorting)]
-fn sort_below(
-    alloc: Global,
-    scope: &Scope,
-    p: &Boxed<Formula>,
-    depth: u64,
-) -> Result<Option<Sort>, Starved>
-    ensures { IfOk result (λ r. found r ≡ node_kind (signature scope.now) (numbers ∷ new_kinds depth) (formula p.now)) }
+#[inline(never)]
+fn is_sorted_below(alloc: Global, scope: &Scope, p: &Formula, depth: u64) -> Result<bool, Starved>
+    ensures { IfOk result (λ b. truths_if b ≡ node_kind (signature scope.now) (numbers ∷ new_kinds depth) (formula p.now)) }
 {
     match depth.checked_add(1) {
-        Some(below) => sort_of_formula(alloc, scope, p.get(), below),
+        Some(below) => is_sorted(alloc, scope, p, below),
         None => Err(Starved),
     }
 }
 
-/// Of a term under `depth` quantifiers.
+/// Whether a formula is well sorted under `depth` quantifiers.
+#[tactic(auto, using(crate::proofs::Fitting::order, crate::proofs::Fitting::quantifier))]
 #[cycle(sorting)]
-fn sort_of_term(alloc: Global, scope: &Scope, t: &Term, depth: u64) -> Result<Option<Sort>, Starved>
-    ensures { IfOk result (λ r. found r ≡ node_kind (signature scope.now) (new_kinds depth) (term t.now)) }
-{
-    match t {
-        Term::Num(_) => Ok(Some(Sort::Num)),
-        Term::Sym(k) => symbol_sort(alloc, scope, *k),
-        Term::Bound(k) => Ok(variable_sort(u64::from(*k), depth)),
-        Term::Add(a, b) => Ok(sort_of_arithmetic(
-            &sort_of_term(alloc, scope, a.get(), depth)?,
-            &sort_of_term(alloc, scope, b.get(), depth)?,
-        )),
-        Term::Sub(a, b) => Ok(sort_of_arithmetic(
-            &sort_of_term(alloc, scope, a.get(), depth)?,
-            &sort_of_term(alloc, scope, b.get(), depth)?,
-        )),
-        Term::Mul(a, b) => Ok(sort_of_arithmetic(
-            &sort_of_term(alloc, scope, a.get(), depth)?,
-            &sort_of_term(alloc, scope, b.get(), depth)?,
-        )),
-        Term::Quo(a, b) => Ok(sort_of_arithmetic(
-            &sort_of_term(alloc, scope, a.get(), depth)?,
-            &sort_of_term(alloc, scope, b.get(), depth)?,
-        )),
-        Term::Rem(a, b) => Ok(sort_of_arithmetic(
-            &sort_of_term(alloc, scope, a.get(), depth)?,
-            &sort_of_term(alloc, scope, b.get(), depth)?,
-        )),
-        Term::Mod(a, b) => Ok(sort_of_arithmetic(
-            &sort_of_term(alloc, scope, a.get(), depth)?,
-            &sort_of_term(alloc, scope, b.get(), depth)?,
-        )),
-        Term::Pow(a, b) => Ok(sort_of_arithmetic(
-            &sort_of_term(alloc, scope, a.get(), depth)?,
-            &sort_of_term(alloc, scope, b.get(), depth)?,
-        )),
-        Term::Bit(p) => Ok(sort_of_truth(&sort_of_formula(alloc, scope, p.get(), depth)?)),
-        Term::Ite(p, a, b) => Ok(sort_of_choice(
-            &sort_of_formula(alloc, scope, p.get(), depth)?,
-            sort_of_term(alloc, scope, a.get(), depth)?,
-            &sort_of_term(alloc, scope, b.get(), depth)?,
-        )),
-        Term::Sel(a, i) => Ok(sort_of_item(
-            sort_of_term(alloc, scope, a.get(), depth)?,
-            &sort_of_term(alloc, scope, i.get(), depth)?,
-        )),
-        Term::Sto(a, i, v) => Ok(sort_of_store(
-            sort_of_term(alloc, scope, a.get(), depth)?,
-            &sort_of_term(alloc, scope, i.get(), depth)?,
-            &sort_of_term(alloc, scope, v.get(), depth)?,
-        )),
-        Term::Fst(a) => Ok(sort_of_bound(&sort_of_term(alloc, scope, a.get(), depth)?)),
-        Term::Lst(a) => Ok(sort_of_bound(&sort_of_term(alloc, scope, a.get(), depth)?)),
-        Term::Fill(f, l, v) => sort_of_fill(
-            alloc,
-            &sort_of_term(alloc, scope, f.get(), depth)?,
-            &sort_of_term(alloc, scope, l.get(), depth)?,
-            sort_of_term(alloc, scope, v.get(), depth)?,
-        ),
-        Term::Rec(ts) => sort_of_record(alloc, scope, ts, depth),
-        Term::Fld(k, r) => sort_of_field(alloc, *k, &sort_of_term(alloc, scope, r.get(), depth)?),
-        Term::Upd(k, r, v) => Ok(sort_of_update(
-            *k,
-            sort_of_term(alloc, scope, r.get(), depth)?,
-            &sort_of_term(alloc, scope, v.get(), depth)?,
-        )),
-        Term::Call(k, ts) => sort_of_call(alloc, scope, *k, ts, depth),
-    }
-}
-
-/// Of a formula under `depth` quantifiers.
-#[cycle(sorting)]
-fn sort_of_formula(
-    alloc: Global,
-    scope: &Scope,
-    p: &Formula,
-    depth: u64,
-) -> Result<Option<Sort>, Starved>
-    ensures { IfOk result (λ r. found r ≡ node_kind (signature scope.now) (new_kinds depth) (formula p.now)) }
+#[inline(never)]
+fn is_sorted(alloc: Global, scope: &Scope, p: &Formula, depth: u64) -> Result<bool, Starved>
+    ensures { IfOk result (λ b. truths_if b ≡ node_kind (signature scope.now) (new_kinds depth) (formula p.now)) }
 {
     match p {
-        Formula::True => Ok(Some(Sort::Truth)),
-        Formula::False => Ok(Some(Sort::Truth)),
-        Formula::Tru(t) => Ok(sort_of_truth(&sort_of_term(alloc, scope, t.get(), depth)?)),
-        Formula::Le(a, b) => Ok(sort_of_order(
-            &sort_of_term(alloc, scope, a.get(), depth)?,
-            &sort_of_term(alloc, scope, b.get(), depth)?,
-        )),
-        Formula::Eq(a, b) => Ok(sort_of_equation(
-            &sort_of_term(alloc, scope, a.get(), depth)?,
-            &sort_of_term(alloc, scope, b.get(), depth)?,
-        )),
-        Formula::Not(q) => Ok(sort_of_truth(&sort_of_formula(alloc, scope, q.get(), depth)?)),
-        Formula::And(q, r) => Ok(sort_of_connective(
-            &sort_of_formula(alloc, scope, q.get(), depth)?,
-            &sort_of_formula(alloc, scope, r.get(), depth)?,
-        )),
-        Formula::Or(q, r) => Ok(sort_of_connective(
-            &sort_of_formula(alloc, scope, q.get(), depth)?,
-            &sort_of_formula(alloc, scope, r.get(), depth)?,
-        )),
-        Formula::Iff(q, r) => Ok(sort_of_connective(
-            &sort_of_formula(alloc, scope, q.get(), depth)?,
-            &sort_of_formula(alloc, scope, r.get(), depth)?,
-        )),
-        Formula::All(l, h, q) => Ok(sort_of_quantifier(
-            &sort_of_term(alloc, scope, l.get(), depth)?,
-            &sort_of_term(alloc, scope, h.get(), depth)?,
-            &sort_below(alloc, scope, q, depth)?,
-        )),
-        Formula::Any(l, h, q) => Ok(sort_of_quantifier(
-            &sort_of_term(alloc, scope, l.get(), depth)?,
-            &sort_of_term(alloc, scope, h.get(), depth)?,
-            &sort_below(alloc, scope, q, depth)?,
-        )),
+        Formula::True | Formula::False => Ok(true),
+        Formula::Tru(t) => is_truth_term(alloc, scope, t.get(), depth),
+        Formula::Le(a, b) => {
+            let first = is_num_term(alloc, scope, a.get(), depth)?;
+            let second = is_num_term(alloc, scope, b.get(), depth)?;
+            Ok(both(first, second))
+        }
+        Formula::Eq(a, b) => {
+            let sort = sort_of_term(alloc, scope, a.get(), depth)?;
+            equates_term(alloc, scope, b.get(), sort, depth)
+        }
+        Formula::Not(q) => is_sorted(alloc, scope, q.get(), depth),
+        Formula::And(q, r) | Formula::Or(q, r) | Formula::Iff(q, r) => {
+            let first = is_sorted(alloc, scope, q.get(), depth)?;
+            let second = is_sorted(alloc, scope, r.get(), depth)?;
+            Ok(both(first, second))
+        }
+        Formula::All(l, h, q) | Formula::Any(l, h, q) => {
+            let first = is_num_term(alloc, scope, l.get(), depth)?;
+            let last = is_num_term(alloc, scope, h.get(), depth)?;
+            let body = is_sorted_below(alloc, scope, q.get(), depth)?;
+            Ok(first && last && body)
+        }
     }
 }
 
@@ -213,7 +283,10 @@ fn sort_of_formula(
 pub fn sort_of(alloc: Global, goal: &Goal, fresh: u32, t: &Term) -> Result<Option<Sort>, Starved>
     ensures { IfOk result (λ r. found r ≡ node_kind (with_new (problem goal.now).signature fresh) [] (term t.now)) }
 {
-    sort_of_term(alloc, &Scope { goal, fresh }, t, 0)
+    match sort_of_term(alloc, &Scope { goal, fresh }, t, 0)? {
+        Some(sort) => Ok(Some(sort.into_inner())),
+        None => Ok(None),
+    }
 }
 
 /// Whether a term is a closed, well sorted number, for the goal's symbols and calls and `fresh` new symbols of numbers after
@@ -221,13 +294,14 @@ pub fn sort_of(alloc: Global, goal: &Goal, fresh: u32, t: &Term) -> Result<Optio
 pub fn is_number(alloc: Global, goal: &Goal, fresh: u32, t: &Term) -> Result<bool, Starved>
     ensures { IfOk result (λ b. b ≡ is_some_numbers (node_kind (with_new (problem goal.now).signature fresh) [] (term t.now))) }
 {
-    Ok(is_num(&sort_of_term(alloc, &Scope { goal, fresh }, t, 0)?))
+    is_num_term(alloc, &Scope { goal, fresh }, t, 0)
 }
 
 /// Whether a formula is closed and well sorted, for the goal's symbols and calls and `fresh` new symbols of numbers after
 /// the goal's.
+#[tactic(auto, using(crate::proofs::Fitting::some_truths))]
 pub fn is_formula(alloc: Global, goal: &Goal, fresh: u32, p: &Formula) -> Result<bool, Starved>
     ensures { IfOk result (λ b. b ≡ is_some_truths (node_kind (with_new (problem goal.now).signature fresh) [] (formula p.now))) }
 {
-    Ok(is_truth(&sort_of_formula(alloc, &Scope { goal, fresh }, p, 0)?))
+    Ok(is_sorted(alloc, &Scope { goal, fresh }, p, 0)?)
 }

@@ -5,5 +5,5 @@ use Rattle.cert_rules.specs.Context.{new_kinds}
 use Rattle.term_sorts.specs.Found.{kinds, signature}
 use Rattle.term_sorts.proofs.sorting.+sorting.Given as goal
 
-abbrev pub invariant-sorts_of_terms-loop-t : goal.invariant-sorts_of_terms-loop-t
-invariant-sorts_of_terms-loop-t l = Some (kinds l.sorts) ≡ node_kinds (signature l.scope) (new_kinds l.depth) (terms (take l.t-index l.t-items))
+abbrev pub invariant-list_sort-loop-t : goal.invariant-list_sort-loop-t
+invariant-list_sort-loop-t l = Some (kinds l.sorts) ≡ node_kinds (signature l.scope) (new_kinds l.depth) (terms (take l.t-index l.t-items))

@@ -1,10 +1,10 @@
 //! Sorts worked out by hand.
 
-use crate::{is_formula, is_number, sort_of};
 use logic_terms::{Formula, Goal, Role, Sort, Starved, Symbol, Term};
 use sqlite_items::{Boxed, Items};
 use std::alloc::Global;
 use std::test::Fail;
+use term_sorts::{is_formula, is_number, sort_of};
 
 type Made<T> = Result<T, Starved>;
 
