@@ -1,0 +1,9 @@
+pub mod GoalTexts
+pub mod CertTexts
+pub mod Reaching
+pub mod WordMarks
+pub mod Turns
+pub mod Places
+pub mod Signatures
+pub mod Formulas
+pub mod Wholes

@@ -1,0 +1,26 @@
+use Rattle.std.proofs.Common.{codes, map}
+use Rattle.logic_terms.specs.Goal.{called_as}
+use Rattle.logic_terms.specs.View.{formula}
+use Rattle.logic_text.specs.Answers.{kinds_of}
+use Rattle.logic_text.proofs.GoalTexts.{signed, stated}
+use Rattle.logic_text.specs.Phases.{After, AtStart, InCalls, InLines}
+use Rattle.logic_text.proofs.Places.{bad_at, steps_at}
+use Rattle.logic_text.proofs.Wholes.{whole_text}
+use Rattle.logic_text.proofs.goal_reader.read_whole.Goals as goal
+
+pub returns-in-Err-read_calls_line-clause-fault : goal.returns-in-Err-read_calls_line-clause-fault
+returns-in-Err-read_calls_line-clause-fault c =
+    bad_at AtStart (After (codes "calls") InCalls) c.args.bytes.now 0 c.in-Ok.sorts.to c.in-Err-read_calls_line.fault c.in-Ok.ensures.on c.in-Err-read_calls_line.ensures.fault
+
+pub returns-in-Err-read_formulas-clause-fault : goal.returns-in-Err-read_formulas-clause-fault
+returns-in-Err-read_formulas-clause-fault c =
+    let b = c.args.bytes.now in
+    let a = c.in-Ok.sorts.to in
+    let e = c.in-Ok-read_calls_line.calls.to in
+    bad_at AtStart InLines b 0 e c.in-Err-read_formulas.fault
+    (steps_at AtStart (After (codes "calls") InCalls) InLines b 0 a e c.in-Ok.ensures.on c.in-Ok-read_calls_line.ensures.on)
+    c.in-Err-read_formulas.ensures.fault
+
+pub returns-in-Ok-read_formulas-clause-text : goal.returns-in-Ok-read_formulas-clause-text
+returns-in-Ok-read_formulas-clause-text c =
+    whole_text (stated (signed (kinds_of c.in-Ok.sorts.symbols) (map called_as c.in-Ok-read_calls_line.calls.calls)) (map formula c.in-Ok-read_formulas.read.hypotheses) (formula c.in-Ok-read_formulas.read.conclusion)) c.args.bytes.now c.in-Ok.sorts.to c.in-Ok-read_calls_line.calls.to c.in-Ok.ensures.text c.in-Ok-read_calls_line.ensures.text c.in-Ok-read_formulas.ensures.text

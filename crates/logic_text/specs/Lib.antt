@@ -1,0 +1,5 @@
+pub mod Goals
+pub mod Certs
+pub mod Answers
+pub mod Phases
+pub mod Takens

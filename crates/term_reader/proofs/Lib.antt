@@ -1,0 +1,14 @@
+pub mod Digits
+pub mod Skipping
+pub mod Spelling
+pub mod Builds
+pub mod Paths
+pub mod Fronts
+pub mod Numbers
+pub mod Choosing
+pub mod Openings
+pub mod Leaves
+pub mod Folds
+pub mod Parts
+pub mod SortTexts
+pub mod Levels

@@ -1,0 +1,9 @@
+pub mod Sorts
+pub mod Values
+pub mod Bytes
+pub mod Trees
+pub mod Operators
+pub mod Words
+pub mod Reads
+pub mod Frames
+pub mod Steps

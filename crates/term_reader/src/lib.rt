@@ -1,0 +1,23 @@
+//! Sorts, terms and formulas read from their texts.
+#![tactic(auto)]
+
+mod bytes;
+mod fault;
+mod frames;
+mod leaf;
+mod make;
+mod number;
+mod opening;
+mod operator;
+mod part;
+mod sort_text;
+mod steps;
+mod words;
+
+pub use bytes::byte_at;
+pub use fault::ReadFault;
+pub use number::{Number, read_number};
+pub use part::{Part, Side};
+pub use sort_text::push_sort;
+pub use steps::{Read, read_part};
+pub use words::common;
