@@ -1,0 +1,8 @@
+use Rattle.std.proofs.Common.{◌≡◌, ◌+◌, ◌≤◌, length, drop, map}
+use Rattle.logic_terms.specs.View.{term}
+use Rattle.linear_prover.specs.Elimination.{negatives}
+use Rattle.linear_prover.specs.View.{made_of}
+use Rattle.linear_prover.proofs.elimination.count_negative.Given as goal
+
+abbrev pub invariant-loop-x : goal.invariant-loop-x
+invariant-loop-x l = (l.count + length (negatives (term l.v) (map made_of (drop l.x-index l.standing))) ≡ length (negatives (term l.v) (map made_of l.standing))) × (l.count ≤ l.x-index)

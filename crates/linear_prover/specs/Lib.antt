@@ -1,0 +1,12 @@
+pub mod Forms
+pub mod Lines
+pub mod LineView
+pub mod Machine
+pub mod Elimination
+pub mod Values
+pub mod ValueView
+pub mod Decided
+pub mod View
+pub mod SplitView
+pub mod Points
+pub mod Refuting
