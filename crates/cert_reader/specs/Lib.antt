@@ -1,0 +1,5 @@
+pub mod Fits
+pub mod Words
+pub mod Phases
+pub mod Entries
+pub mod Answers
