@@ -1,7 +1,6 @@
 -- The kinds of operators' values, where some operands are numbers or truth values, or are not.
-use Rattle.std.proofs.Common.{◌≡◌, refl, sym, ◌∙◌, ap, subst, ℕ, Bool, true, false, ◌&&◌, ◌⊎◌, inl, inr, List, Option, Some, None, Result, IfOk}
-use Rattle.std.proofs.lemmas.Bool.{false≢true}
-use Rattle.logic_terms.specs.Node.{Arith, add, sub, mul, quo, rem, mod_by, pow, arith, conj, disj, iff, le, sel, ite, sto, fill, Node, op2}
+use Rattle.std.proofs.Common.{◌≡◌, refl, sym, ◌∙◌, ap, subst, Bool, true, false, ◌&&◌, ◌⊎◌, inl, inr, List, Option, Some, None, Result, IfOk}
+use Rattle.logic_terms.specs.Node.{Arith, add, sub, mul, quo, rem, mod_by, pow, arith, le, sel, sto, fill, Node, op2}
 use Rattle.logic_terms.specs.Value.{Kind, numbers, truths, arrays, records}
 use Rattle.logic_terms.specs.Sorting.{Signature, node_kind, kind_over, on2, on3}
 use Rattle.logic_terms.specs.View.{term, formula, term_step, formula_step}
@@ -18,13 +17,6 @@ use Rattle.term_sorts.specs.Found.{found, numbers_if, truths_if}
 pub some_truths : (b : Bool) → is_some_truths (truths_if b) ≡ b
 some_truths true = refl
 some_truths false = refl
-
-some_numbers : (j : Option Kind) → true ≡ is_some_numbers j → j ≡ Some numbers
-some_numbers None h = absurd (false≢true (sym h))
-some_numbers (Some numbers) h = refl
-some_numbers (Some truths) h = absurd (false≢true (sym h))
-some_numbers (Some (arrays k)) h = absurd (false≢true (sym h))
-some_numbers (Some (records ks)) h = absurd (false≢true (sym h))
 
 -- ---- two numbers
 
@@ -75,63 +67,77 @@ pub quantifier : (l h p : Option Kind) (x y c : Bool) → x ≡ is_some_numbers 
 quantifier l h p x y c e i is =
     ap (λ z. truths_if ((z && y) && c)) e ∙ ap (λ z. truths_if ((is_some_numbers l && z) && c)) i ∙ over l h c ∙ ap (kind_over l h) is
 
--- ---- an operand that is to be a number
+-- ---- operands that are to be numbers
 
-pub index_there : (k j : Option Kind) (b : Bool) → b ≡ is_some_numbers j → b ≡ true → on2 sel k (Some numbers) ≡ on2 sel k j
-index_there k j b h is = ap (on2 sel k) (sym (some_numbers j (sym is ∙ h)))
+index_kind : (k j : Option Kind) → on2 sel k (numbers_if (is_some_numbers j)) ≡ on2 sel k j
+index_kind None j = refl
+index_kind (Some k) (Some numbers) = refl
+index_kind (Some numbers) None = refl
+index_kind (Some numbers) (Some truths) = refl
+index_kind (Some numbers) (Some (arrays j)) = refl
+index_kind (Some numbers) (Some (records js)) = refl
+index_kind (Some truths) None = refl
+index_kind (Some truths) (Some truths) = refl
+index_kind (Some truths) (Some (arrays j)) = refl
+index_kind (Some truths) (Some (records js)) = refl
+index_kind (Some (arrays k)) None = refl
+index_kind (Some (arrays k)) (Some truths) = refl
+index_kind (Some (arrays k)) (Some (arrays j)) = refl
+index_kind (Some (arrays k)) (Some (records js)) = refl
+index_kind (Some (records ks)) None = refl
+index_kind (Some (records ks)) (Some truths) = refl
+index_kind (Some (records ks)) (Some (arrays j)) = refl
+index_kind (Some (records ks)) (Some (records js)) = refl
 
-pub index_bad : (k j : Option Kind) (b : Bool) → b ≡ is_some_numbers j → b ≡ false → None ≡ on2 sel k j
-index_bad None j b h is = refl
-index_bad (Some k) None b h is = refl
-index_bad (Some k) (Some numbers) b h is = absurd (false≢true (sym is ∙ h))
-index_bad (Some numbers) (Some j) b h is = refl
-index_bad (Some truths) (Some j) b h is = refl
-index_bad (Some (arrays k)) (Some truths) b h is = refl
-index_bad (Some (arrays k)) (Some (arrays j)) b h is = refl
-index_bad (Some (arrays k)) (Some (records js)) b h is = refl
-index_bad (Some (records ks)) (Some j) b h is = refl
+pub index : (k j : Option Kind) (b : Bool) → b ≡ is_some_numbers j → on2 sel k (numbers_if b) ≡ on2 sel k j
+index k j b h = ap (λ x. on2 sel k (numbers_if x)) h ∙ index_kind k j
 
-pub store_there : (k j i : Option Kind) (b : Bool) → b ≡ is_some_numbers j → b ≡ true → on3 sto k (Some numbers) i ≡ on3 sto k j i
-store_there k j i b h is = ap (λ x. on3 sto k x i) (sym (some_numbers j (sym is ∙ h)))
+store_kind : (k j i : Option Kind) → on3 sto k (numbers_if (is_some_numbers j)) i ≡ on3 sto k j i
+store_kind None j i = refl
+store_kind (Some k) (Some numbers) i = refl
+store_kind (Some k) None i = refl
+store_kind (Some k) (Some truths) None = refl
+store_kind (Some k) (Some (arrays j)) None = refl
+store_kind (Some k) (Some (records js)) None = refl
+store_kind (Some numbers) (Some truths) (Some i) = refl
+store_kind (Some numbers) (Some (arrays j)) (Some i) = refl
+store_kind (Some numbers) (Some (records js)) (Some i) = refl
+store_kind (Some truths) (Some truths) (Some i) = refl
+store_kind (Some truths) (Some (arrays j)) (Some i) = refl
+store_kind (Some truths) (Some (records js)) (Some i) = refl
+store_kind (Some (arrays k)) (Some truths) (Some i) = refl
+store_kind (Some (arrays k)) (Some (arrays j)) (Some i) = refl
+store_kind (Some (arrays k)) (Some (records js)) (Some i) = refl
+store_kind (Some (records ks)) (Some truths) (Some i) = refl
+store_kind (Some (records ks)) (Some (arrays j)) (Some i) = refl
+store_kind (Some (records ks)) (Some (records js)) (Some i) = refl
 
-pub store_bad : (k j i : Option Kind) (b : Bool) → b ≡ is_some_numbers j → b ≡ false → None ≡ on3 sto k j i
-store_bad None j i b h is = refl
-store_bad (Some k) None i b h is = refl
-store_bad (Some k) (Some numbers) i b h is = absurd (false≢true (sym is ∙ h))
-store_bad (Some k) (Some j) None b h is = refl
-store_bad (Some numbers) (Some j) (Some i) b h is = refl
-store_bad (Some truths) (Some j) (Some i) b h is = refl
-store_bad (Some (arrays k)) (Some truths) (Some i) b h is = refl
-store_bad (Some (arrays k)) (Some (arrays j)) (Some i) b h is = refl
-store_bad (Some (arrays k)) (Some (records js)) (Some i) b h is = refl
-store_bad (Some (records ks)) (Some j) (Some i) b h is = refl
+pub store : (k j i : Option Kind) (b : Bool) → b ≡ is_some_numbers j → on3 sto k (numbers_if b) i ≡ on3 sto k j i
+store k j i b h = ap (λ x. on3 sto k (numbers_if x) i) h ∙ store_kind k j i
 
--- ---- the two bounds of an array
+limits_kind : (f l k : Option Kind) → on3 fill (numbers_if (is_some_numbers f)) (numbers_if (is_some_numbers l)) k ≡ on3 fill f l k
+limits_kind None l k = refl
+limits_kind (Some numbers) None k = refl
+limits_kind (Some numbers) (Some numbers) k = refl
+limits_kind (Some numbers) (Some truths) None = refl
+limits_kind (Some numbers) (Some truths) (Some k) = refl
+limits_kind (Some numbers) (Some (arrays l)) None = refl
+limits_kind (Some numbers) (Some (arrays l)) (Some k) = refl
+limits_kind (Some numbers) (Some (records ls)) None = refl
+limits_kind (Some numbers) (Some (records ls)) (Some k) = refl
+limits_kind (Some truths) None k = refl
+limits_kind (Some truths) (Some l) None = refl
+limits_kind (Some truths) (Some l) (Some k) = refl
+limits_kind (Some (arrays f)) None k = refl
+limits_kind (Some (arrays f)) (Some l) None = refl
+limits_kind (Some (arrays f)) (Some l) (Some k) = refl
+limits_kind (Some (records fs)) None k = refl
+limits_kind (Some (records fs)) (Some l) None = refl
+limits_kind (Some (records fs)) (Some l) (Some k) = refl
 
-pub limits_there : (f l k : Option Kind) (x y : Bool) → x ≡ is_some_numbers f → y ≡ is_some_numbers l → x ≡ true → y ≡ true → on3 fill (Some numbers) (Some numbers) k ≡ on3 fill f l k
-limits_there f l k x y h i is too =
-    ap (λ z. on3 fill z (Some numbers) k) (sym (some_numbers f (sym is ∙ h))) ∙ ap (λ z. on3 fill f z k) (sym (some_numbers l (sym too ∙ i)))
-
-pub limits_bad : (f l k : Option Kind) (x y : Bool) → x ≡ is_some_numbers f → y ≡ is_some_numbers l → (x && y) ≡ false → None ≡ on3 fill f l k
-limits_bad None l k x y h i is = refl
-limits_bad (Some f) None k x y h i is = refl
-limits_bad (Some f) (Some l) None x y h i is = refl
-limits_bad (Some numbers) (Some numbers) (Some k) x y h i is =
-    absurd (false≢true (sym is ∙ ap (λ z. z && y) h ∙ i))
-limits_bad (Some numbers) (Some truths) (Some k) x y h i is = refl
-limits_bad (Some numbers) (Some (arrays l)) (Some k) x y h i is = refl
-limits_bad (Some numbers) (Some (records ls)) (Some k) x y h i is = refl
-limits_bad (Some truths) (Some l) (Some k) x y h i is = refl
-limits_bad (Some (arrays f)) (Some l) (Some k) x y h i is = refl
-limits_bad (Some (records fs)) (Some l) (Some k) x y h i is = refl
-
--- ---- a condition
-
-pub choice_there : (p k j : Option Kind) (b : Bool) → truths_if b ≡ p → b ≡ true → on3 ite (Some truths) k j ≡ on3 ite p k j
-choice_there p k j b h is = ap (λ x. on3 ite x k j) (ap truths_if (sym is) ∙ h)
-
-pub choice_bad : (p k j : Option Kind) (b : Bool) → truths_if b ≡ p → b ≡ false → None ≡ on3 ite p k j
-choice_bad p k j b h is = ap (λ x. on3 ite x k j) (ap truths_if (sym is) ∙ h)
+pub limits : (f l k : Option Kind) (x y : Bool) → x ≡ is_some_numbers f → y ≡ is_some_numbers l → on3 fill (numbers_if x) (numbers_if y) k ≡ on3 fill f l k
+limits f l k x y h i =
+    ap (λ z. on3 fill (numbers_if z) (numbers_if y) k) h ∙ ap (λ z. on3 fill (numbers_if (is_some_numbers f)) (numbers_if z) k) i ∙ limits_kind f l k
 
 -- ---- terms with two operands that are numbers
 

@@ -1,9 +1,9 @@
 -- Symbols, variables, fields and calls by their numbers.
-use Rattle.std.proofs.Common.{◌≡◌, ◌≢◌, refl, sym, ◌∙◌, ap, subst, ℕ, zero, suc, ◌<◌, ◌≤◌, ◌+◌, ◌-◌, Bool, true, false, ◌&&◌, List, [], ◌∷◌, ◌++◌, map, length, get_or, drop, Option, Some, None, arith}
+use Rattle.std.proofs.Common.{◌≡◌, ◌≢◌, refl, sym, ◌∙◌, ap, ℕ, zero, suc, ◌<◌, ◌≤◌, ◌+◌, ◌-◌, Bool, true, false, ◌&&◌, List, [], ◌∷◌, ◌++◌, map, length, get_or, drop, Some, None, arith}
 use Rattle.std.specs.List.{slice_get}
-use Rattle.logic_terms.specs.Value.{Kind, numbers, records, Kinds, no_kinds, kind, same_kind, same_kinds}
-use Rattle.logic_terms.specs.Sorts.{sort, kinds_in}
-use Rattle.logic_terms.specs.Sorting.{Called, nth, nth_kind, given, kind-upd, kind-call}
+use Rattle.logic_terms.specs.Value.{Kind, numbers, records, kind, same_kind, same_kinds}
+use Rattle.logic_terms.specs.Sorts.{sort}
+use Rattle.logic_terms.specs.Sorting.{nth, nth_kind, given, kind-upd}
 use Rattle.logic_terms.specs.Goal.{called_as}
 use Rattle.logic_terms.specs.declared.sort.Sort.{Sort}
 use Rattle.logic_terms.specs.declared.goal.Symbol.{Symbol}

@@ -1,7 +1,7 @@
 -- The kinds of sorts that were found.
-use Rattle.std.specs.Prelude.{ℕ, Bool, true, false, List, map, Option, Some, None}
+use Rattle.std.specs.Prelude.{ℕ, Bool, List, map, Option, Some, None}
 use Rattle.logic_terms.specs.Node.{OpN, fields, call}
-use Rattle.logic_terms.specs.Value.{Kind, numbers, truths, Kinds, same_kind}
+use Rattle.logic_terms.specs.Value.{Kind, numbers, truths, Kinds}
 use Rattle.logic_terms.specs.Sorts.{sort, kinds_in}
 use Rattle.logic_terms.specs.Sorting.{Signature, given}
 use Rattle.logic_terms.specs.Goal.{problem}

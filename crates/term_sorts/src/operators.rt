@@ -5,7 +5,7 @@
 
 ghost use Rattle.std.specs.Prelude.{◌≡◌, ◌&&◌, ◌++◌, ◌∷◌, [], Some, IfOk, OnOk};
 ghost use Rattle.logic_terms.specs.Node.{bit, conj, disj, eq, fill, fld, fst, iff, ite, lst, neg, sel, sto, tru, upd};
-ghost use Rattle.logic_terms.specs.Value.{numbers, records, truths};
+ghost use Rattle.logic_terms.specs.Value.{numbers, records};
 ghost use Rattle.logic_terms.specs.Sorts.{sort};
 ghost use Rattle.logic_terms.specs.Sorting.{given, kind-upd, kindn, nth_kind, on1, on2, on3};
 ghost use Rattle.cert_rules.specs.Context.{is_some_numbers};
@@ -90,14 +90,14 @@ fn equates(a: &Sort, b: &Sort) -> bool
     }
 }
 
-/// Of `ite`, where its condition is well sorted.
+/// Of `ite`, of which the condition is well sorted or not.
 #[inline(never)]
-pub fn sort_of_choice(a: FoundSort, b: FoundSort) -> FoundSort
-    ensures { found result ≡ on3 ite (Some truths) (found a) (found b) }
+pub fn sort_of_choice(sorted: bool, a: FoundSort, b: FoundSort) -> FoundSort
+    ensures { found result ≡ on3 ite (truths_if sorted) (found a) (found b) }
 {
     match (a, b) {
         (Some(x), Some(y)) => {
-            if same_sort(x.get(), y.get()) {
+            if sorted && same_sort(x.get(), y.get()) {
                 Some(x)
             } else {
                 None
@@ -107,16 +107,29 @@ pub fn sort_of_choice(a: FoundSort, b: FoundSort) -> FoundSort
     }
 }
 
-/// Of `sel` at a number.
+/// The sort of the items of an array of this sort.
+fn items_of(array: Sort) -> FoundSort
+    ensures { found result ≡ on2 sel (Some (sort array)) (Some numbers) }
+{
+    match array {
+        Sort::Array(item) => Some(item),
+        _ => None,
+    }
+}
+
+/// Of `sel`, at a number or not.
 #[inline(never)]
-pub fn sort_of_item(a: FoundSort) -> FoundSort
-    ensures { found result ≡ on2 sel (found a) (Some numbers) }
+pub fn sort_of_item(a: FoundSort, at_number: bool) -> FoundSort
+    ensures { found result ≡ on2 sel (found a) (numbers_if at_number) }
 {
     match a {
-        Some(array) => match array.into_inner() {
-            Sort::Array(item) => Some(item),
-            _ => None,
-        },
+        Some(array) => {
+            if at_number {
+                items_of(array.into_inner())
+            } else {
+                None
+            }
+        }
         None => None,
     }
 }
@@ -131,14 +144,14 @@ fn holds_item(array: &Sort, item: &Sort) -> bool
     }
 }
 
-/// Of `sto` at a number.
+/// Of `sto`, at a number or not.
 #[inline(never)]
-pub fn sort_of_store(a: FoundSort, v: FoundSort) -> FoundSort
-    ensures { found result ≡ on3 sto (found a) (Some numbers) (found v) }
+pub fn sort_of_store(a: FoundSort, at_number: bool, v: FoundSort) -> FoundSort
+    ensures { found result ≡ on3 sto (found a) (numbers_if at_number) (found v) }
 {
     match (a, v) {
         (Some(array), Some(item)) => {
-            if holds_item(array.get(), item.get()) {
+            if at_number && holds_item(array.get(), item.get()) {
                 Some(array)
             } else {
                 None
@@ -148,13 +161,24 @@ pub fn sort_of_store(a: FoundSort, v: FoundSort) -> FoundSort
     }
 }
 
-/// Of `fill` between numbers.
+/// Of `fill`, of which either bound is a number or not.
 #[inline(never)]
-pub fn sort_of_fill(alloc: Global, v: FoundSort) -> Result<FoundSort, Starved>
-    ensures { IfOk result (λ r. found r ≡ on3 fill (Some numbers) (Some numbers) (found v)) }
+pub fn sort_of_fill(
+    alloc: Global,
+    first: bool,
+    last: bool,
+    v: FoundSort,
+) -> Result<FoundSort, Starved>
+    ensures { IfOk result (λ r. found r ≡ on3 fill (numbers_if first) (numbers_if last) (found v)) }
 {
     match v {
-        Some(item) => Ok(Some(Boxed::new(alloc, Sort::Array(item))?)),
+        Some(item) => {
+            if first && last {
+                Ok(Some(Boxed::new(alloc, Sort::Array(item))?))
+            } else {
+                Ok(None)
+            }
+        }
         None => Ok(None),
     }
 }

@@ -45,6 +45,7 @@ pub fn truth_if(alloc: Global, is: bool) -> Result<FoundSort, Starved>
 }
 
 /// The sort of variable `k` under `depth` quantifiers, or of new symbol `k` of `depth`: all are numbers.
+#[inline(never)]
 #[tactic(auto, using(crate::proofs::Lists::new_there, crate::proofs::Lists::new_past))]
 pub fn variable_sort(alloc: Global, k: u64, depth: u64) -> Result<FoundSort, Starved>
     ensures { IfOk result (λ r. found r ≡ nth (new_kinds depth) k) }

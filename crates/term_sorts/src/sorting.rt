@@ -2,8 +2,8 @@
 //!
 //! Terms nest deep: what recurses holds boxes and truth values alone, and none of it is inlined.
 
-ghost use Rattle.std.specs.Prelude.{◌≡◌, ◌∷◌, [], Some, IfOk};
-ghost use Rattle.logic_terms.specs.Value.{numbers, truths};
+ghost use Rattle.std.specs.Prelude.{◌≡◌, ◌∷◌, [], IfOk};
+ghost use Rattle.logic_terms.specs.Value.{numbers};
 ghost use Rattle.logic_terms.specs.Node.{eq, fill, fld, fst, ite, lst, sel, sto, tru, upd};
 ghost use Rattle.logic_terms.specs.Sorting.{node_kind, node_kinds, on1, on2, on3, onn};
 ghost use Rattle.logic_terms.specs.Goal.{problem};
@@ -48,22 +48,35 @@ fn is_array_term(alloc: Global, scope: &Scope, t: &Term, depth: u64) -> Result<b
     Ok(is_array(sort_of_term(alloc, scope, t, depth)?))
 }
 
-/// Of an item of an array.
+/// Of an item of an array, at a number or not.
 #[cycle(sorting)]
 #[inline(never)]
-fn item_sort(alloc: Global, scope: &Scope, a: &Term, depth: u64) -> Result<FoundSort, Starved>
-    ensures { IfOk result (λ r. found r ≡ on2 sel (node_kind (signature scope.now) (new_kinds depth) (term a.now)) (Some numbers)) }
+fn item_sort(
+    alloc: Global,
+    scope: &Scope,
+    a: &Term,
+    at_number: bool,
+    depth: u64,
+) -> Result<FoundSort, Starved>
+    ensures { IfOk result (λ r. found r ≡ on2 sel (node_kind (signature scope.now) (new_kinds depth) (term a.now)) (numbers_if at_number)) }
 {
-    Ok(sort_of_item(sort_of_term(alloc, scope, a, depth)?))
+    Ok(sort_of_item(sort_of_term(alloc, scope, a, depth)?, at_number))
 }
 
-/// Of an array that is filled with a term.
+/// Of an array that is filled with a term, of which either bound is a number or not.
 #[cycle(sorting)]
 #[inline(never)]
-fn filled_sort(alloc: Global, scope: &Scope, v: &Term, depth: u64) -> Result<FoundSort, Starved>
-    ensures { IfOk result (λ r. found r ≡ on3 fill (Some numbers) (Some numbers) (node_kind (signature scope.now) (new_kinds depth) (term v.now))) }
+fn filled_sort(
+    alloc: Global,
+    scope: &Scope,
+    v: &Term,
+    first: bool,
+    last: bool,
+    depth: u64,
+) -> Result<FoundSort, Starved>
+    ensures { IfOk result (λ r. found r ≡ on3 fill (numbers_if first) (numbers_if last) (node_kind (signature scope.now) (new_kinds depth) (term v.now))) }
 {
-    sort_of_fill(alloc, sort_of_term(alloc, scope, v, depth)?)
+    sort_of_fill(alloc, first, last, sort_of_term(alloc, scope, v, depth)?)
 }
 
 /// Of field `k` of a record.
@@ -81,22 +94,23 @@ fn field_sort(
     sort_of_field(alloc, k, sort_of_term(alloc, scope, r, depth)?)
 }
 
-/// Of a choice between what has the sort `a` and a term.
+/// Of a choice between what has the sort `a` and a term, by a formula that is well sorted or not.
 #[cycle(sorting)]
 #[inline(never)]
 fn chosen_sort(
     alloc: Global,
     scope: &Scope,
     b: &Term,
+    sorted: bool,
     a: FoundSort,
     depth: u64,
 ) -> Result<FoundSort, Starved>
-    ensures { IfOk result (λ r. found r ≡ on3 ite (Some truths) (found a) (node_kind (signature scope.now) (new_kinds depth) (term b.now))) }
+    ensures { IfOk result (λ r. found r ≡ on3 ite (truths_if sorted) (found a) (node_kind (signature scope.now) (new_kinds depth) (term b.now))) }
 {
-    Ok(sort_of_choice(a, sort_of_term(alloc, scope, b, depth)?))
+    Ok(sort_of_choice(sorted, a, sort_of_term(alloc, scope, b, depth)?))
 }
 
-/// Of what has the sort `a` with a term stored at a number.
+/// Of what has the sort `a` with a term stored at a number or not.
 #[cycle(sorting)]
 #[inline(never)]
 fn stored_sort(
@@ -104,11 +118,12 @@ fn stored_sort(
     scope: &Scope,
     v: &Term,
     a: FoundSort,
+    at_number: bool,
     depth: u64,
 ) -> Result<FoundSort, Starved>
-    ensures { IfOk result (λ r. found r ≡ on3 sto (found a) (Some numbers) (node_kind (signature scope.now) (new_kinds depth) (term v.now))) }
+    ensures { IfOk result (λ r. found r ≡ on3 sto (found a) (numbers_if at_number) (node_kind (signature scope.now) (new_kinds depth) (term v.now))) }
 {
-    Ok(sort_of_store(a, sort_of_term(alloc, scope, v, depth)?))
+    Ok(sort_of_store(a, at_number, sort_of_term(alloc, scope, v, depth)?))
 }
 
 /// Of what has the sort `r` with a term as its field `k`.
@@ -166,7 +181,7 @@ fn list_sort(
 }
 
 /// Of a term under `depth` quantifiers.
-#[tactic(auto, using(crate::proofs::Fitting::index_there, crate::proofs::Fitting::index_bad, crate::proofs::Fitting::limits_there, crate::proofs::Fitting::limits_bad, crate::proofs::Fitting::store_there, crate::proofs::Fitting::store_bad, crate::proofs::Fitting::choice_there, crate::proofs::Fitting::choice_bad))]
+#[tactic(auto, using(crate::proofs::Fitting::index, crate::proofs::Fitting::limits, crate::proofs::Fitting::store))]
 #[cycle(sorting)]
 #[inline(never)]
 fn sort_of_term(alloc: Global, scope: &Scope, t: &Term, depth: u64) -> Result<FoundSort, Starved>
@@ -189,38 +204,25 @@ fn sort_of_term(alloc: Global, scope: &Scope, t: &Term, depth: u64) -> Result<Fo
         }
         Term::Bit(p) => truth_if(alloc, is_sorted(alloc, scope, p.get(), depth)?),
         Term::Ite(p, a, b) => {
-            if is_sorted(alloc, scope, p.get(), depth)? {
-                let sort = sort_of_term(alloc, scope, a.get(), depth)?;
-                chosen_sort(alloc, scope, b.get(), sort, depth)
-            } else {
-                Ok(None)
-            }
+            let sorted = is_sorted(alloc, scope, p.get(), depth)?;
+            let sort = sort_of_term(alloc, scope, a.get(), depth)?;
+            chosen_sort(alloc, scope, b.get(), sorted, sort, depth)
         }
         Term::Sel(a, i) => {
-            if is_num_term(alloc, scope, i.get(), depth)? {
-                item_sort(alloc, scope, a.get(), depth)
-            } else {
-                Ok(None)
-            }
+            let at_number = is_num_term(alloc, scope, i.get(), depth)?;
+            item_sort(alloc, scope, a.get(), at_number, depth)
         }
         Term::Sto(a, i, v) => {
-            if is_num_term(alloc, scope, i.get(), depth)? {
-                let sort = sort_of_term(alloc, scope, a.get(), depth)?;
-                stored_sort(alloc, scope, v.get(), sort, depth)
-            } else {
-                Ok(None)
-            }
+            let at_number = is_num_term(alloc, scope, i.get(), depth)?;
+            let sort = sort_of_term(alloc, scope, a.get(), depth)?;
+            stored_sort(alloc, scope, v.get(), sort, at_number, depth)
         }
         Term::Fst(a) => number_if(alloc, is_array_term(alloc, scope, a.get(), depth)?),
         Term::Lst(a) => number_if(alloc, is_array_term(alloc, scope, a.get(), depth)?),
         Term::Fill(f, l, v) => {
             let first = is_num_term(alloc, scope, f.get(), depth)?;
             let last = is_num_term(alloc, scope, l.get(), depth)?;
-            if first && last {
-                filled_sort(alloc, scope, v.get(), depth)
-            } else {
-                Ok(None)
-            }
+            filled_sort(alloc, scope, v.get(), first, last, depth)
         }
         Term::Rec(ts) => list_sort(alloc, scope, ts, None, depth),
         Term::Fld(k, r) => field_sort(alloc, scope, r.get(), *k, depth),
