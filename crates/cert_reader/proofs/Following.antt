@@ -1,8 +1,9 @@
 -- A value after a space, and what may follow it.
 use Rattle.std.proofs.Common.{◌≡◌, refl, sym, ◌∙◌, ap, subst, ℕ, List, [], ◌∷◌, ◌++◌, append_assoc}
 use Rattle.term_reader.specs.Bytes.{first, Ends, IsFault}
+use Rattle.term_reader.specs.Words.{IsWordFault}
 use Rattle.term_reader.proofs.Digits.{same_tail}
-use Rattle.logic_text.specs.Phases.{After, IsWordFault, IsBad, IsUpTo}
+use Rattle.logic_text.specs.Phases.{IsBad, IsUpTo}
 use Rattle.logic_text.proofs.WordMarks.{word_bad}
 use Rattle.cert_reader.specs.Phases.{Then}
 

@@ -3,13 +3,13 @@ use Rattle.std.proofs.Common.{◌≡◌, refl, sym, ◌∙◌, ap, subst, ℕ, z
 use Rattle.std.specs.Prelude.{ℤ}
 use Rattle.std.proofs.lemmas.List.{append_cancel_left}
 use Rattle.logic_terms.specs.Node.{Node}
-use Rattle.cert_lines.specs.Line.{Step, sum_of, tighten, Line, given, opening, choice, propagation, linear, trichotomy, instance, witness, replacing, array_fact, extensionality, field_fact, division, product, computing}
+use Rattle.cert_lines.specs.Line.{Line, given, opening, choice, propagation, linear, trichotomy, instance, witness, replacing, array_fact, extensionality, field_fact, division, product, computing}
 use Rattle.term_reader.specs.Bytes.{first}
-use Rattle.term_reader.specs.Words.{word_at, IsNoWord}
+use Rattle.term_reader.specs.Words.{IsNoWord}
 use Rattle.term_reader.proofs.Spelling.{same_place}
 use Rattle.logic_text.specs.Certs.{spaced_number, spaced_whole, spaced_node, nodes_text, numbers_text, literals_text, steps_text, line_text, lines_text}
 use Rattle.logic_text.specs.Phases.{IsBad, IsUpTo}
-use Rattle.cert_reader.specs.Fits.{IsCount, IsFormula, IsLine, Every}
+use Rattle.logic_text.specs.Fits.{IsCount, IsFormula, IsLine, Every}
 use Rattle.cert_reader.specs.Phases.{InLines, Formulas, hints, steps, Has, fields}
 use Rattle.cert_reader.specs.Words.{word_of, line_words, words}
 use Rattle.cert_reader.specs.declared.line_word.LineWord.{LineWord}

@@ -1,24 +1,24 @@
 -- Numbers, terms and formulas after a space.
-use Rattle.std.proofs.Common.{◌≡◌, refl, sym, ◌∙◌, ap, subst, ℕ, zero, suc, ◌+◌, ◌-◌, ◌<◌, ◌≤◌, true, false, List, [], ◌∷◌, ◌++◌, length, drop, codes, arith, append_assoc, inl, inr}
+use Rattle.std.proofs.Common.{◌≡◌, refl, sym, ◌∙◌, ap, subst, ℕ, zero, suc, ◌-◌, ◌<◌, ◌≤◌, true, false, List, [], ◌∷◌, ◌++◌, length, drop, codes, arith}
 use Rattle.std.specs.Prelude.{◌^◌, ℤ, pos, negsuc}
-use Rattle.std.proofs.lemmas.Bool.{false≢true, true≢false, eqb-false, lt-ltb, ltb-true}
-use Rattle.std.proofs.lemmas.List.{append_cancel_left}
+use Rattle.std.proofs.lemmas.Bool.{false≢true, true≢false, lt-ltb, ltb-true}
 use Rattle.logic_terms.specs.Node.{Node, num, flag}
 use Rattle.cert_lines.specs.Line.{sum_of, tighten}
 use Rattle.term_text.specs.Text.{number_text, whole_text, node_text}
 use Rattle.term_reader.specs.Bytes.{is_digit, first, Ends, IsWhole, IsFault}
-use Rattle.term_reader.specs.Reads.{Between, IsRead, IsReadFault, IsUnread}
+use Rattle.term_reader.specs.Words.{IsWordFault}
+use Rattle.term_reader.specs.Reads.{Between, IsRead, IsReadFault}
 use Rattle.term_reader.specs.Trees.{Tree, of_node, of_kind, tree_text, IsOf}
 use Rattle.term_reader.specs.Values.{is_node}
 use Rattle.term_reader.specs.declared.fault.ReadFault.{ReadFault}
 use Rattle.term_reader.specs.declared.fault.ReadFault.TheVariants as fault
 use Rattle.term_reader.specs.declared.part.Side.{Side}
 use Rattle.term_reader.specs.declared.part.Side.TheVariants as side
-use Rattle.term_reader.proofs.Digits.{same_head, same_tail, digit_first}
+use Rattle.term_reader.proofs.Digits.{same_tail, digit_first}
 use Rattle.logic_text.specs.Certs.{spaced_number, spaced_whole, spaced_node}
-use Rattle.logic_text.specs.Phases.{After, IsWordFault, IsBad, IsUpTo, IsBadAt}
+use Rattle.logic_text.specs.Phases.{IsUpTo, IsBadAt}
 use Rattle.logic_text.proofs.CertTexts.{number_apart, whole_apart}
-use Rattle.cert_reader.specs.Fits.{IsIndex, IsCount, IsNumber, IsTerm, IsFormula}
+use Rattle.logic_text.specs.Fits.{IsIndex, IsCount, IsNumber, IsTerm, IsFormula}
 use Rattle.cert_reader.specs.Phases.{InLines, Then, Formulas, Phase, ended, finish, hints, steps, index, whole, term, formula, times, counted, Has}
 use Rattle.cert_reader.proofs.Following.{Spaced, space_bad, value_bad, value_on, fault_as}
 

@@ -1,5 +1,5 @@
 -- Formulas, hints and steps in a row.
-use Rattle.std.proofs.Common.{◌≡◌, refl, sym, ◌∙◌, ap, ap₂, subst, ℕ, zero, suc, ◌+◌, ◌-◌, ◌<◌, ◌≤◌, List, [], ◌∷◌, ◌++◌, length, length-append, drop, map, codes, append_assoc, arith}
+use Rattle.std.proofs.Common.{◌≡◌, refl, sym, ◌∙◌, ap, ap₂, subst, ℕ, suc, ◌+◌, ◌-◌, ◌<◌, ◌≤◌, List, [], ◌∷◌, ◌++◌, length, length-append, drop, map, codes, append_assoc, arith}
 use Rattle.std.specs.Prelude.{ℤ}
 use Rattle.std.proofs.lemmas.Bool.{eqb-false}
 use Rattle.std.proofs.lemmas.List.{map-append, append-nil, length-map}
@@ -15,13 +15,12 @@ use Rattle.term_reader.specs.declared.fault.ReadFault.TheVariants as fault
 use Rattle.term_reader.proofs.Digits.{same_head, same_tail}
 use Rattle.term_reader.proofs.Fronts.{first_is}
 use Rattle.logic_text.specs.Certs.{spaced_number, spaced_whole, spaced_node, nodes_text, numbers_text, literals_text, scaled_text, step_text, steps_text}
-use Rattle.logic_text.specs.Phases.{After, IsBad, IsUpTo, IsBadAt}
-use Rattle.logic_text.proofs.Places.{bad_at, steps_at, word_at}
+use Rattle.logic_text.specs.Phases.{IsUpTo, IsBadAt}
+use Rattle.logic_text.proofs.Places.{bad_at, steps_at}
 use Rattle.logic_text.proofs.Reaching.{upto_same}
-use Rattle.cert_reader.specs.Fits.{IsIndex, IsStep, Every}
-use Rattle.cert_reader.specs.Phases.{InLines, Phase, ended, hints, steps, index, whole, formula, times, Has}
+use Rattle.cert_reader.specs.Phases.{Phase, ended, hints, steps, index, whole, formula, times, Has}
 use Rattle.cert_reader.proofs.Forms.{put}
-use Rattle.cert_reader.proofs.Leaves.{last_line, some_lines, some}
+use Rattle.cert_reader.proofs.Leaves.{some}
 
 -- ---- formulas
 

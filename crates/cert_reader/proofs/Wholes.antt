@@ -6,19 +6,19 @@ use Rattle.cert_lines.specs.Line.{Line}
 use Rattle.cert_lines.specs.View.{line as line_of}
 use Rattle.cert_lines.specs.declared.line.CertLine.{CertLine}
 use Rattle.term_reader.specs.Bytes.{first}
-use Rattle.term_reader.specs.Words.{IsNoWord}
+use Rattle.term_reader.specs.Words.{IsNoWord, IsWordFault}
 use Rattle.term_reader.specs.declared.fault.ReadFault.{ReadFault}
 use Rattle.term_reader.specs.declared.fault.ReadFault.TheVariants as fault
 use Rattle.term_reader.proofs.Digits.{same_head, same_tail}
 use Rattle.term_reader.proofs.Fronts.{first_dropped}
 use Rattle.logic_text.specs.Answers.{with_end}
 use Rattle.logic_text.specs.Certs.{line_text, lines_text, cert_bytes}
-use Rattle.logic_text.specs.Phases.{After, IsWordFault, IsBad, IsUpTo, IsBadAt}
+use Rattle.logic_text.specs.Phases.{After, IsBad, IsUpTo, IsBadAt}
 use Rattle.logic_text.proofs.Places.{bad_at, steps_at, word_at, word_bad_at}
 use Rattle.logic_text.proofs.Reaching.{upto_same}
 use Rattle.cert_reader.specs.Answers.{GoesOn, IsBadCert}
 use Rattle.cert_reader.specs.Entries.{IsFields, IsLine, IsEntry}
-use Rattle.cert_reader.specs.Fits.{AreLines}
+use Rattle.logic_text.specs.Fits.{AreLines}
 use Rattle.cert_reader.specs.Phases.{InLines, AtStart, ended, finish, Has, fields}
 use Rattle.cert_reader.specs.Words.{word_of, words}
 use Rattle.cert_reader.specs.declared.line_word.LineWord.{LineWord}

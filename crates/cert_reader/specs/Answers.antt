@@ -5,7 +5,7 @@ use Rattle.logic_text.specs.Answers.{with_end}
 use Rattle.logic_text.specs.Certs.{cert_bytes}
 use Rattle.logic_text.specs.declared.fault.TextFault.{TextFault}
 use Rattle.logic_text.specs.declared.fault.TextFault.TheVariants as fault
-use Rattle.cert_reader.specs.Fits.{AreLines}
+use Rattle.logic_text.specs.Fits.{AreLines}
 
 -- the text of some certificate begins so; the end counts as a byte
 abbrev pub GoesOn : List ℕ → Type 0

@@ -1,4 +1,3 @@
-pub mod Fits
 pub mod Words
 pub mod Phases
 pub mod Entries

@@ -3,7 +3,7 @@ use Rattle.std.specs.Prelude.{◌≡◌, ℕ, zero, suc, List, [], ◌∷◌, �
 use Rattle.cert_lines.specs.Line.{Step, Line}
 use Rattle.logic_text.specs.Certs.{spaced_number, spaced_whole, spaced_node, numbers_text, steps_text, lines_text}
 use Rattle.logic_text.specs.Phases.{After}
-use Rattle.cert_reader.specs.Fits.{IsIndex, IsCount, IsNumber, IsTerm, IsFormula, IsStep, AreLines, Every}
+use Rattle.logic_text.specs.Fits.{IsIndex, IsCount, IsNumber, IsTerm, IsFormula, IsStep, AreLines, Every}
 use Rattle.cert_reader.specs.declared.line_word.LineWord.{LineWord}
 use Rattle.cert_reader.specs.declared.line_word.LineWord.TheVariants as line
 

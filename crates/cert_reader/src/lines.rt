@@ -10,12 +10,11 @@ ghost use Rattle.cert_reader.specs.Phases.{InLines, finish, Has, fields};
 ghost use Rattle.cert_reader.specs.declared.line_word.LineWord.{LineWord};
 
 use crate::line_word::{LineWord, choose};
-use crate::marks::read_word;
 use crate::shapes::{LineRead, read_fields};
 use cert_lines::CertLines;
 use sqlite_items::Items;
 use std::alloc::Global;
-use term_reader::ReadFault;
+use term_reader::{ReadFault, read_word};
 
 /// Reads what follows the word of a line, and the end of the line.
 fn read_line(alloc: Global, bytes: &[u8], at: usize, word: LineWord) -> Result<LineRead, ReadFault>

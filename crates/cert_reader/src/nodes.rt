@@ -9,10 +9,9 @@ ghost use Rattle.logic_text.specs.Certs.{spaced_node};
 ghost use Rattle.logic_text.specs.Phases.{IsUpTo, IsBadAt};
 ghost use Rattle.cert_reader.specs.Phases.{Phase, term, formula, Has};
 
-use crate::marks::read_word;
 use logic_terms::{Formula, Term};
 use std::alloc::Global;
-use term_reader::{Part, Read, ReadFault, Side, read_part};
+use term_reader::{Part, Read, ReadFault, Side, read_part, read_word};
 
 /// A term that is read, and the place after it.
 #[derive(Drop)]

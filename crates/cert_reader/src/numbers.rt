@@ -5,11 +5,10 @@ ghost use Rattle.term_text.specs.Text.{whole_text};
 ghost use Rattle.term_reader.specs.Bytes.{first, Ends, IsFault};
 ghost use Rattle.logic_text.specs.Certs.{spaced_number, spaced_whole};
 ghost use Rattle.logic_text.specs.Phases.{IsUpTo, IsBadAt};
-ghost use Rattle.cert_reader.specs.Fits.{IsNumber};
+ghost use Rattle.logic_text.specs.Fits.{IsNumber};
 ghost use Rattle.cert_reader.specs.Phases.{Phase, index, whole, times, counted, Has};
 
-use crate::marks::read_word;
-use term_reader::{ReadFault, byte_at, read_number};
+use term_reader::{ReadFault, byte_at, read_number, read_word};
 
 /// A number of 32 bits that is read, and the place after it.
 #[derive(Clone, Copy)]

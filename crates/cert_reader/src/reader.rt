@@ -8,11 +8,10 @@ ghost use Rattle.cert_reader.specs.Answers.{IsCertFault, most_cert_bytes};
 ghost use Rattle.cert_reader.specs.Phases.{AtStart};
 
 use crate::lines::read_lines;
-use crate::marks::read_word;
 use cert_lines::Cert;
 use logic_text::TextFault;
 use std::alloc::Global;
-use term_reader::ReadFault;
+use term_reader::{ReadFault, read_word};
 
 /// Longer texts are not read as certificates.
 pub const MOST_CERT_BYTES: usize = 1_048_576;

@@ -7,7 +7,6 @@ ghost use Rattle.logic_text.specs.Certs.{scaled_text, step_text, steps_text};
 ghost use Rattle.logic_text.specs.Phases.{IsUpTo, IsBadAt};
 ghost use Rattle.cert_reader.specs.Phases.{Phase, index, whole, steps as steps_phase, ended, Has};
 
-use crate::marks::read_word;
 use crate::numbers::{read_index, read_whole};
 use cert_lines::{StepLine, StepLines};
 use sqlite_items::Items;

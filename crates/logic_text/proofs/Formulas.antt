@@ -7,6 +7,7 @@ use Rattle.logic_terms.specs.View.{formula}
 use Rattle.logic_terms.specs.declared.syntax.Formula.{Formula}
 use Rattle.term_text.specs.Text.{node_text}
 use Rattle.term_reader.specs.Bytes.{first, is_digit, Ends}
+use Rattle.term_reader.specs.Words.{IsWordFault}
 use Rattle.term_reader.specs.Reads.{IsRead, IsReadFault}
 use Rattle.term_reader.specs.Trees.{of_node}
 use Rattle.term_reader.specs.declared.fault.ReadFault.{ReadFault}
@@ -15,7 +16,7 @@ use Rattle.term_reader.specs.declared.part.Side.TheVariants as side
 use Rattle.term_reader.proofs.Digits.{same_head}
 use Rattle.term_reader.proofs.Fronts.{first_dropped}
 use Rattle.logic_text.specs.Goals.{hypotheses_text, conclusion_text}
-use Rattle.logic_text.specs.Phases.{After, OfPart, AtEnd, InLines, Rest, more_lines, nothing, Has, Line, IsWordFault, IsUpTo, IsBadAt}
+use Rattle.logic_text.specs.Phases.{After, OfPart, AtEnd, InLines, Rest, more_lines, nothing, Has, Line, IsUpTo, IsBadAt}
 use Rattle.logic_text.proofs.GoalTexts.{line_then}
 use Rattle.logic_text.proofs.Places.{bad_at, part_bad_at, part_read_at, word_bad_at, steps_at, word_at}
 use Rattle.logic_text.proofs.Reaching.{upto_same, nothing_bad}

@@ -7,3 +7,4 @@ pub mod Places
 pub mod Signatures
 pub mod Formulas
 pub mod Wholes
+pub mod Fitting

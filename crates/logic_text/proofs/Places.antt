@@ -1,12 +1,13 @@
 -- Faults and steps at places of a text.
 use Rattle.std.proofs.Common.{◌≡◌, ℕ, ◌≤◌, List, ◌++◌, length, drop}
 use Rattle.term_reader.specs.Bytes.{Ends}
+use Rattle.term_reader.specs.Words.{IsWordFault}
 use Rattle.term_reader.specs.Reads.{IsRead, IsReadFault}
 use Rattle.term_reader.specs.Trees.{Tree}
 use Rattle.term_reader.specs.declared.fault.ReadFault.{ReadFault}
 use Rattle.term_reader.specs.declared.fault.ReadFault.TheVariants as fault
 use Rattle.term_reader.specs.declared.part.Side.{Side}
-use Rattle.logic_text.specs.Phases.{After, OfPart, IsWordFault, IsUpTo, IsBadAt}
+use Rattle.logic_text.specs.Phases.{After, OfPart, IsUpTo, IsBadAt}
 use Rattle.logic_text.proofs.WordMarks.{word_bad}
 use Rattle.logic_text.proofs.Reaching.{bad_whole, upto_whole, word_upto, part_upto, part_bad}
 

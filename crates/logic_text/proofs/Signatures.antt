@@ -9,6 +9,7 @@ use Rattle.logic_terms.specs.declared.goal.Call.{Call}
 use Rattle.logic_terms.specs.declared.goal.Symbol.{Symbol}
 use Rattle.logic_terms.specs.declared.sort.Sort.{Sort}
 use Rattle.term_reader.specs.Bytes.{first}
+use Rattle.term_reader.specs.Words.{IsWordFault}
 use Rattle.term_reader.specs.Reads.{IsRead, IsReadFault}
 use Rattle.term_reader.specs.Sorts.{kind_text}
 use Rattle.term_reader.specs.Trees.{of_kind}
@@ -17,7 +18,7 @@ use Rattle.term_reader.specs.declared.fault.ReadFault.TheVariants as fault
 use Rattle.term_reader.specs.declared.part.Side.TheVariants as side
 use Rattle.logic_text.specs.Answers.{kinds_of}
 use Rattle.logic_text.specs.Goals.{sorts_text, taken_text, call_text, calls_text}
-use Rattle.logic_text.specs.Phases.{After, OfPart, AtStart, InSorts, InCalls, InCall, InLines, IsWordFault, IsUpTo, IsBadAt}
+use Rattle.logic_text.specs.Phases.{After, OfPart, AtStart, InSorts, InCalls, InCall, InLines, IsUpTo, IsBadAt}
 use Rattle.logic_text.proofs.GoalTexts.{part_then, call_then}
 use Rattle.logic_text.proofs.Places.{bad_at, part_bad_at, part_read_at, word_bad_at, steps_at, word_at}
 use Rattle.logic_text.proofs.Reaching.{upto_same, nothing_bad}

@@ -77,3 +77,6 @@ whole_text p bytes a b e f g =
 
 pub good_goal : (p : Problem) (at : ℕ) → IsGoal p → IsBadGoal (goal_bytes p) at → ⊥
 good_goal p at h b = b.2 (p, drop (suc at) (with_end (goal_bytes p)), h, sym (take-append-drop (suc at) (with_end (goal_bytes p))))
+
+pub good_text : (p : Problem) (text : List ℕ) → IsGoal p → text ≡ goal_bytes p → (at : ℕ) → IsBadGoal text at → ⊥
+good_text p text h e at b = good_goal p at h (subst (λ (t : List ℕ). IsBadGoal t at) e b)

@@ -3,3 +3,4 @@ pub mod Certs
 pub mod Answers
 pub mod Phases
 pub mod Takens
+pub mod Fits

@@ -54,15 +54,6 @@ Has nothing = AtEnd
 abbrev pub Line : List ℕ → Rest → List ℕ → Type 0
 Line w n = After w (OfPart Formula (After (codes "\n") (Has n)))
 
--- no text of the word goes on past the first byte of `r`
-pub record IsWordFault (w s r : List ℕ) : Type 0 where
-  pub front : List ℕ
-  pub next : ℕ
-  pub rest : List ℕ
-  pub is_front : s ≡ front ++ r
-  pub is_word : w ≡ front ++ (next ∷ rest)
-  pub differs : first r ≡ next → ⊥
-
 -- a fault of what a phase may have: no such text goes on past the first byte of `r`
 pub record IsBad (P : List ℕ → Type 0) (s r : List ℕ) : Type 0 where
   pub front : List ℕ

@@ -3,9 +3,11 @@
 ghost use Rattle.std.specs.Prelude.{◌≡◌, ◌++◌, OnOk, IfOk, codes, map};
 ghost use Rattle.logic_terms.specs.View.{term, formula};
 ghost use Rattle.cert_lines.specs.View.{step as step_of, line as line_of, lines as lines_of};
+ghost use Rattle.logic_text.specs.Fits.{AreLines};
 ghost use Rattle.logic_text.specs.Goals.{line_end};
 ghost use Rattle.logic_text.specs.Certs.{spaced_number, spaced_node, nodes_text, numbers_text, literals_text, scaled_text, step_text, steps_text, line_text, lines_text, cert_bytes};
 
+use crate::fits::cert_fits;
 use crate::parts::{push_spaced_formula, push_spaced_number, push_spaced_term, push_spaced_whole};
 use ada_values::ByteList;
 use cert_lines::{Cert, CertLine, CertLines, HintList, StepLine, StepLines};
@@ -214,10 +216,13 @@ fn push_lines(alloc: Global, text: &mut Vec<u8>, lines: &CertLines) -> Result<()
     Ok(())
 }
 
-/// The text of a certificate.
+/// The text of a certificate. Its numbers fit, so it is read back, but for want of memory and texts that are too long. To
+/// show this, the call first goes through all lines of the certificate, in time linear in their size.
 pub fn cert_text(alloc: Global, c: &Cert) -> Result<ByteList, Starved>
-    ensures { IfOk result (λ text. text ≡ cert_bytes (lines_of c.now)) }
+    ensures text { IfOk result (λ text. text ≡ cert_bytes (lines_of c.now)) }
+    ensures fits { IfOk result (λ _. AreLines (lines_of c.now)) }
 {
+    cert_fits(c);
     let mut text = Vec::new(alloc);
     text.extend_from_slice(b"cert 1\n")?;
     push_lines(alloc, &mut text, &c.lines)?;

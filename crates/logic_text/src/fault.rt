@@ -1,7 +1,5 @@
 //! Why a text is not read.
 
-use term_reader::ReadFault;
-
 /// Why a text is not read.
 #[derive(Clone, Copy, Debug, PartialEq, Eq)]
 pub enum TextFault {
@@ -11,13 +9,4 @@ pub enum TextFault {
     BadText(usize),
     /// There was no memory left, or more than `MOST_LEVELS` brackets are open.
     Starved,
-}
-
-impl From<ReadFault> for TextFault {
-    fn from(fault: ReadFault) -> TextFault {
-        match fault {
-            ReadFault::BadText(at) => TextFault::BadText(at),
-            ReadFault::Starved => TextFault::Starved,
-        }
-    }
 }

@@ -11,12 +11,12 @@ ghost use Rattle.logic_text.specs.Goals.{line_end, hypotheses_text, conclusion_t
 ghost use Rattle.logic_text.specs.Phases.{AtStart, InLines, Rest, Line, Has, IsUpTo, IsBadAt};
 
 use crate::fault::TextFault;
-use crate::marks::{FormulaRead, read_formula, read_word};
+use crate::marks::{FormulaRead, read_formula};
 use crate::signature_reader::{read_calls_line, read_sorts_line};
 use logic_terms::{Formula, FormulaList, Goal};
 use sqlite_items::Items;
 use std::alloc::Global;
-use term_reader::{ReadFault, byte_at};
+use term_reader::{ReadFault, byte_at, read_word};
 
 /// Longer texts are not read as goals.
 pub const MOST_GOAL_BYTES: usize = 4_194_304;

@@ -1,13 +1,15 @@
 //! The text of a goal.
 
-ghost use Rattle.std.specs.Prelude.{◌≡◌, ◌++◌, OnOk, IfOk, codes, map};
+ghost use Rattle.std.specs.Prelude.{◌≡◌, ◌++◌, ℕ, OnOk, IfOk, codes, map};
 ghost use Rattle.logic_terms.specs.View.{formula};
 ghost use Rattle.logic_terms.specs.Sorts.{sort as kind_of, kinds_in};
 ghost use Rattle.logic_terms.specs.Goal.{called_as, problem};
 ghost use Rattle.term_reader.specs.Sorts.{kind_text};
 ghost use Rattle.term_text.specs.Text.{node_text};
+ghost use Rattle.logic_text.specs.Answers.{IsBadGoal};
 ghost use Rattle.logic_text.specs.Goals.{line_end, sorts_text, taken_text, call_text, calls_text, hypotheses_text, goal_bytes};
 
+use crate::fits::goal_fits;
 use crate::formula_text::push_formula;
 use ada_values::ByteList;
 use logic_terms::{
@@ -97,8 +99,8 @@ fn push_hypotheses(
     Ok(())
 }
 
-/// The text of a goal.
-pub fn goal_text(alloc: Global, g: &Goal) -> Result<ByteList, Starved>
+/// Writes the text of a goal.
+fn write_goal(alloc: Global, g: &Goal) -> Result<ByteList, Starved>
     ensures { IfOk result (λ text. text ≡ goal_bytes (problem g.now)) }
 {
     let mut text = Vec::new(alloc);
@@ -110,4 +112,15 @@ pub fn goal_text(alloc: Global, g: &Goal) -> Result<ByteList, Starved>
     push_hypotheses(alloc, &mut text, &g.hypotheses)?;
     push_line(alloc, &mut text, "goal ", &g.conclusion)?;
     Ok(Items::from_vec(text))
+}
+
+/// The text of a goal. It is read back: `read_goal` answers it with a goal that states the same, with `TooLong` or with
+/// `Starved`. To show this, the call first goes through all terms and formulas of the goal, in time linear in their size.
+pub fn goal_text(alloc: Global, g: &Goal) -> Result<ByteList, Starved>
+    ensures text { IfOk result (λ text. text ≡ goal_bytes (problem g.now)) }
+    ensures read { IfOk result (λ text. (at : ℕ) → IsBadGoal text at → ⊥) }
+{
+    goal_fits(g);
+    let text = write_goal(alloc, g)?;
+    Ok(text)
 }

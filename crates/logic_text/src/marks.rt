@@ -1,34 +1,15 @@
-//! Words and parts at a place of a text.
+//! Parts at a place of a text.
 
-ghost use Rattle.std.specs.Prelude.{◌≡◌, ◌+◌, ◌<◌, ◌≤◌, ◌∷◌, ◌++◌, length, drop, IfOk, IfErr};
+ghost use Rattle.std.specs.Prelude.{◌≤◌, length, IfOk, IfErr};
 ghost use Rattle.logic_terms.specs.Sorts.{sort as kind_of};
 ghost use Rattle.logic_terms.specs.View.{formula};
 ghost use Rattle.term_reader.specs.Reads.{IsRead, IsReadFault};
 ghost use Rattle.term_reader.specs.Trees.{of_kind, of_node};
 ghost use Rattle.term_reader.specs.declared.part.Side.{Side};
-ghost use Rattle.logic_text.specs.Phases.{IsWordFault};
 
 use logic_terms::{Formula, Sort};
 use std::alloc::Global;
-use term_reader::{Part, Read, ReadFault, Side, common, read_part};
-
-/// The place after a word that is to stand at a place. The error is the first byte that is another.
-#[tactic(auto, using(crate::proofs::WordMarks::word_whole, crate::proofs::WordMarks::word_fault))]
-pub fn read_word(bytes: &[u8], at: usize, word: &[u8]) -> Result<usize, usize>
-    requires { at ≤ length bytes.now }
-    ensures to { IfOk result (λ to. to ≡ at + length word.now) }
-    ensures inside { IfOk result (λ to. to ≤ length bytes.now) }
-    ensures text { IfOk result (λ to. drop at bytes.now ≡ word.now ++ drop to bytes.now) }
-    ensures place { IfErr result (λ to. to ≤ length bytes.now) }
-    ensures fault { IfErr result (λ to. IsWordFault word.now (drop at bytes.now) (drop to bytes.now)) }
-{
-    let agreed = common(word, bytes, at);
-    if agreed == word.len() {
-        Ok(at + agreed)
-    } else {
-        Err(at + agreed)
-    }
-}
+use term_reader::{Part, Read, ReadFault, Side, read_part};
 
 /// A sort that is read, and the place after it.
 #[derive(Drop)]

@@ -11,11 +11,11 @@ ghost use Rattle.logic_text.specs.Goals.{line_end, sorts_text, taken_text, call_
 ghost use Rattle.logic_text.specs.Phases.{After, AtStart, InSorts, InCalls, InCall, InLines, IsUpTo, IsBadAt};
 ghost use Rattle.logic_text.specs.Takens.{IsTaken};
 
-use crate::marks::{read_sort, read_word};
+use crate::marks::read_sort;
 use logic_terms::{Call, CallList, Role, Sort, SortList, Symbol, SymbolList};
 use sqlite_items::Items;
 use std::alloc::Global;
-use term_reader::{ReadFault, byte_at};
+use term_reader::{ReadFault, byte_at, read_word};
 
 /// Reads a space and the sort of a symbol.
 fn read_symbol(

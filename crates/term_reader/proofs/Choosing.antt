@@ -1,13 +1,10 @@
--- The word at the front of a text.
-use Rattle.std.proofs.Common.{◌≡◌, refl, sym, ◌∙◌, ap, ap₂, subst, ℕ, zero, suc, ◌+◌, ◌<◌, ◌≤◌, max, Bool, true, false, List, [], ◌∷◌, ◌++◌, length, get_or, take, drop, map, arith, inl, inr}
+-- The word at the front of a text, of a list of words.
+use Rattle.std.proofs.Common.{◌≡◌, refl, sym, ◌∙◌, ap, ap₂, subst, ℕ, zero, suc, ◌+◌, ◌<◌, ◌≤◌, max, Bool, true, false, List, [], ◌∷◌, ◌++◌, length, get_or, take, drop, arith, inl, inr}
 use Rattle.std.specs.Prelude.{◌==◌, ◌&&◌, nat_lt}
 use Rattle.std.proofs.lemmas.List.{take-append-drop, drop-drop, drop_all, drop_more}
 use Rattle.std.proofs.lemmas.Bool.{and_parts, false≢true, eqb-true, ne_eqb, eq-eqb, cond-true, cond-false, cases_Bool, ltb-true, cases_lt}
-use Rattle.term_reader.specs.declared.part.Side.{Side}
-use Rattle.term_reader.specs.declared.part.Side.TheVariants.{Term, Formula, Sort}
 use Rattle.term_reader.specs.Bytes.{first}
-use Rattle.term_reader.specs.Trees.{Build, an_array, gives, fits}
-use Rattle.term_reader.specs.Words.{builds, word, words, common_of, furthest_of, word_at, IsNoWord}
+use Rattle.term_reader.specs.Words.{common_of, furthest_of, word_at, IsNoWord}
 use Rattle.term_reader.proofs.Digits.{same_head, same_tail}
 use Rattle.term_reader.proofs.Fronts.{front_dropped, first_at_end, first_dropped}
 
@@ -75,7 +72,7 @@ front_common (x ∷ w) (y ∷ s) = elim (cases_Bool (y == x)) [
       subst (λ (n : ℕ). x ∷ w ≡ take n (y ∷ s) ++ drop n (x ∷ w)) (sym k) refl
 ]
 
-abbrev bytes_only : List ℕ → Bool
+abbrev pub bytes_only : List ℕ → Bool
 bytes_only [] = true
 bytes_only (c ∷ cs) = nat_lt c 256 && bytes_only cs
 
@@ -106,16 +103,20 @@ further w ws s f = elim (cases_lt (furthest_of ws s) (common_of w s)) [
   | inr h ↦ record { place = suc f.place; inside = let i = f.inside in omega arith; reached = let r = f.reached in r ∙ omega arith }
 ]
 
-furthest : (w : List ℕ) (ws : List (List ℕ)) (s : List ℕ) → Furthest (w ∷ ws) s
-furthest w [] s = record { place = 0; inside = omega arith; reached = omega arith }
-furthest w (v ∷ ws) s = further w (v ∷ ws) s (furthest v ws s)
+furthest_or : (w : List ℕ) (ws : List (List ℕ)) (s : List ℕ) → Furthest (w ∷ ws) s
+furthest_or w [] s = record { place = 0; inside = omega arith; reached = omega arith }
+furthest_or w (v ∷ ws) s = further w (v ∷ ws) s (furthest_or v ws s)
+
+furthest : (ws : List (List ℕ)) (s : List ℕ) → 0 < length ws → Furthest ws s
+furthest [] s h = absurd (omega arith)
+furthest (w ∷ ws) s h = furthest_or w ws s
 
 at_most : (ws : List (List ℕ)) (s : List ℕ) (i : ℕ) → i < length ws → common_of (word_at ws i) s ≤ furthest_of ws s
 at_most [] s i h = absurd (omega arith)
 at_most (w ∷ ws) s zero h = omega arith
 at_most (w ∷ ws) s (suc i) h = let k : common_of (word_at ws i) s ≤ furthest_of ws s = at_most ws s i (omega arith) in omega arith
 
-abbrev all_bytes : List (List ℕ) → Bool
+abbrev pub all_bytes : List (List ℕ) → Bool
 all_bytes [] = true
 all_bytes (w ∷ ws) = bytes_only w && all_bytes ws
 
@@ -124,48 +125,33 @@ bytes_at [] i b h = absurd (omega arith)
 bytes_at (w ∷ ws) zero b h = (and_parts (bytes_only w) (all_bytes ws) b).0
 bytes_at (w ∷ ws) (suc i) b h = bytes_at ws i (and_parts (bytes_only w) (all_bytes ws) b).1 (omega arith)
 
-words_bytes : (s : Side) → all_bytes (words s) ≡ true
-words_bytes Term = refl
-words_bytes Formula = refl
-words_bytes Sort = refl
-
-some_word : (s : Side) (t : List ℕ) → Furthest (words s) t
-some_word Term t = furthest _ _ t
-some_word Formula t = furthest _ _ t
-some_word Sort t = furthest _ _ t
-
 -- every word ends before the text does what it says
 abbrev pub NoneWhole : List (List ℕ) → List ℕ → Type 0
 NoneWhole ws s = (i : ℕ) → i < length ws → common_of (word_at ws i) s < length (word_at ws i)
 
-pub no_word : (s : Side) (bytes : List ℕ) (at m : ℕ) → NoneWhole (words s) (drop at bytes) → m ≡ furthest_of (words s) (drop at bytes) → m ≤ length (drop at bytes) → IsNoWord (words s) (drop at bytes) (drop (at + m) bytes)
-no_word s bytes at m none e l =
+pub no_word : (ws : List (List ℕ)) (bytes : List ℕ) (at m : ℕ) → 0 < length ws → all_bytes ws ≡ true → NoneWhole ws (drop at bytes) → m ≡ furthest_of ws (drop at bytes) → m ≤ length (drop at bytes) → IsNoWord ws (drop at bytes) (drop (at + m) bytes)
+no_word ws bytes at m some only none e l =
     let t = drop at bytes in
-    let f = some_word s t in
-    let c : common_of (word_at (words s) f.place) t ≡ m = f.reached ∙ sym e in
+    let f = furthest ws t some in
+    let c : common_of (word_at ws f.place) t ≡ m = f.reached ∙ sym e in
     let r : drop m t ≡ drop (at + m) bytes = drop-drop m at bytes in record {
       front = take m t;
       is_front = sym (take-append-drop m t) ∙ ap (λ (x : List ℕ). take m t ++ x) r;
       goes = (
         f.place,
-        drop m (word_at (words s) f.place),
+        drop m (word_at ws f.place),
         f.inside,
-        front_common (word_at (words s) f.place) t ∙ ap (λ (n : ℕ). take n t ++ drop n (word_at (words s) f.place)) c,
+        front_common (word_at ws f.place) t ∙ ap (λ (n : ℕ). take n t ++ drop n (word_at ws f.place)) c,
       );
       stuck = λ i k rest h x.
-          let u = at_most (words s) t i h in
-          no_common (word_at (words s) i) t k rest m (bytes_at (words s) i (words_bytes s) h) l (omega arith) (none i h)
+          let u = at_most ws t i h in
+          no_common (word_at ws i) t k rest m (bytes_at ws i only h) l (omega arith) (none i h)
           (x ∙ ap (λ (y : List ℕ). take m t ++ (first y ∷ rest)) (sym r));
     }
 
--- ---- rows
+-- ---- a word that is read
 
-mapped : (os : List Build) (i : ℕ) → i < length (map word os) → get_or (map word os) i [] ≡ word (get_or os i an_array)
-mapped [] i h = absurd (omega arith)
-mapped (o ∷ os) zero h = refl
-mapped (o ∷ os) (suc i) h = mapped os i (omega arith)
-
-abbrev some_bytes : List (List ℕ) → Bool
+abbrev pub some_bytes : List (List ℕ) → Bool
 some_bytes [] = true
 some_bytes ([] ∷ ws) = false
 some_bytes ((c ∷ cs) ∷ ws) = some_bytes ws
@@ -176,47 +162,17 @@ some_at ([] ∷ ws) i b h = absurd (false≢true b)
 some_at ((c ∷ cs) ∷ ws) zero b h = omega arith
 some_at ((c ∷ cs) ∷ ws) (suc i) b h = some_at ws i b (omega arith)
 
-words_some : (s : Side) → some_bytes (words s) ≡ true
-words_some Term = refl
-words_some Formula = refl
-words_some Sort = refl
-
--- what every build of a side is
-abbrev AllOf : Side → List Build → Type 0
-AllOf s [] = Unit {0}
-AllOf s (o ∷ os) = ((gives o ≡ s) × (fits o ≡ true)) × AllOf s os
-
-all_at : (s : Side) (os : List Build) (i : ℕ) → AllOf s os → i < length (map word os) → (gives (get_or os i an_array) ≡ s) × (fits (get_or os i an_array) ≡ true)
-all_at s [] i a h = absurd (omega arith)
-all_at s (o ∷ os) zero a h = a.0
-all_at s (o ∷ os) (suc i) a h = all_at s os i a.1 (omega arith)
-
-all_builds : (s : Side) → AllOf s (builds s 0)
-all_builds Term = ((refl, refl), ((refl, refl), ((refl, refl), ((refl, refl), ((refl, refl), ((refl, refl), ((refl, refl), ((refl, refl), ((refl, refl), ((refl, refl), ((refl, refl), ((refl, refl), ((refl, refl), ((refl, refl), ((refl, refl), ((refl, refl), ((refl, refl), ((refl, refl), tt))))))))))))))))))
-all_builds Formula = ((refl, refl), ((refl, refl), ((refl, refl), ((refl, refl), ((refl, refl), ((refl, refl), ((refl, refl), ((refl, refl), ((refl, refl), tt)))))))))
-all_builds Sort = ((refl, refl), ((refl, refl), tt))
-
-pub build_at : (s : Side) (i : ℕ) → i < length (words s) → (gives (get_or (builds s 0) i an_array) ≡ s) × (fits (get_or (builds s 0) i an_array) ≡ true)
-build_at s i h = all_at s (builds s 0) i (all_builds s) h
-
-pub word_is : (s : Side) (i : ℕ) → i < length (words s) → word_at (words s) i ≡ word (get_or (builds s 0) i an_array)
-word_is s i h = mapped (builds s 0) i h
-
--- a word that is read
-pub record WordRead (s : Side) (o : Build) (bytes : List ℕ) (at n : ℕ) : Type 0 where
+pub record WordRead (v bytes : List ℕ) (at n : ℕ) : Type 0 where
   pub some : 0 < n
-  pub text : drop at bytes ≡ word o ++ drop (at + n) bytes
-  pub given : gives o ≡ s
+  pub text : drop at bytes ≡ v ++ drop (at + n) bytes
 
-pub word_read : (s : Side) (i at n : ℕ) (bytes w : List ℕ) (o : Build) → i < length (words s) → w ≡ word_at (words s) i → o ≡ get_or (builds s 0) i an_array → n ≡ common_of w (drop at bytes) → n ≡ length w → WordRead s o bytes at n
-word_read s i at n bytes w o h e f g l =
-    let v : w ≡ word o = e ∙ word_is s i h ∙ ap word (sym f) in
-    let p : 0 < length w = subst (λ (x : List ℕ). 0 < length x) (sym e) (some_at (words s) i (words_some s) h) in record {
+pub word_read : (ws : List (List ℕ)) (i at n : ℕ) (bytes w v : List ℕ) → some_bytes ws ≡ true → i < length ws → w ≡ word_at ws i → word_at ws i ≡ v → n ≡ common_of w (drop at bytes) → n ≡ length w → WordRead v bytes at n
+word_read ws i at n bytes w v b h e f g l =
+    let p : 0 < length w = subst (λ (x : List ℕ). 0 < length x) (sym e) (some_at ws i b h) in record {
       some = omega arith;
       text = word_front w (drop at bytes) (sym g ∙ l)
-          ∙ ap₂ (λ (x : List ℕ) (m : ℕ). x ++ drop m (drop at bytes)) v (sym l)
-          ∙ ap (λ (x : List ℕ). word o ++ x) (drop-drop n at bytes);
-      given = ap gives f ∙ (build_at s i h).0;
+          ∙ ap₂ (λ (x : List ℕ) (m : ℕ). x ++ drop m (drop at bytes)) (e ∙ f) (sym l)
+          ∙ ap (λ (x : List ℕ). v ++ x) (drop-drop n at bytes);
     }
 
 -- ---- a row more

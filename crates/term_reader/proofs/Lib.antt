@@ -6,6 +6,8 @@ pub mod Paths
 pub mod Fronts
 pub mod Numbers
 pub mod Choosing
+pub mod SideWords
+pub mod WordPlaces
 pub mod Openings
 pub mod Leaves
 pub mod Folds

@@ -12,7 +12,7 @@ use Rattle.term_reader.specs.Trees.{Build, one, two, three, many, over, an_array
 use Rattle.term_reader.specs.Operators.{with_index}
 use Rattle.term_reader.specs.Words.{builds, word, words, word_at, IsNoWord, IsBuild}
 use Rattle.term_reader.proofs.Spelling.{place, index, tail_by, placed, same_place, words_apart}
-use Rattle.term_reader.proofs.Choosing.{build_at, word_is}
+use Rattle.term_reader.proofs.SideWords.{build_at, word_is}
 
 -- ---- builds with a number
 

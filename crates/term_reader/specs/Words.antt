@@ -47,6 +47,15 @@ pub record IsNoWord (ws : List (List ℕ)) (s r : List ℕ) : Type 0 where
   pub goes : (i : ℕ) × (rest : List ℕ) × (i < length ws) × (word_at ws i ≡ front ++ rest)
   pub stuck : (i : ℕ) (k rest : List ℕ) → i < length ws → word_at ws i ++ k ≡ front ++ (first r ∷ rest) → ⊥
 
+-- no text of the word goes on past the first byte of `r`
+pub record IsWordFault (w s r : List ℕ) : Type 0 where
+  pub front : List ℕ
+  pub next : ℕ
+  pub rest : List ℕ
+  pub is_front : s ≡ front ++ r
+  pub is_word : w ≡ front ++ (next ∷ rest)
+  pub differs : first r ≡ next → ⊥
+
 -- what stands after a bracket gives this side and has a number that fits
 pub record IsBuild (s : Side) (o : Build) : Type 0 where
   pub given : gives o ≡ s

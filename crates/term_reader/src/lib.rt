@@ -6,6 +6,7 @@ mod fault;
 mod frames;
 mod leaf;
 mod make;
+mod marks;
 mod number;
 mod opening;
 mod operator;
@@ -16,6 +17,7 @@ mod words;
 
 pub use bytes::byte_at;
 pub use fault::ReadFault;
+pub use marks::read_word;
 pub use number::{Number, read_number};
 pub use part::{Part, Side};
 pub use sort_text::push_sort;

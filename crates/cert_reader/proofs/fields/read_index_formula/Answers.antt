@@ -1,8 +1,7 @@
 use Rattle.std.proofs.Common.{◌∙◌, ap, ℕ, List, ◌++◌}
-use Rattle.logic_terms.specs.View.{term as term_of}
-use Rattle.logic_text.specs.Certs.{spaced_number, spaced_node}
+use Rattle.logic_text.specs.Certs.{spaced_number}
 use Rattle.logic_text.proofs.Places.{bad_at, steps_at}
-use Rattle.cert_reader.specs.Phases.{index, whole, term, formula, Has}
+use Rattle.cert_reader.specs.Phases.{index, formula, Has}
 use Rattle.cert_reader.proofs.fields.read_index_formula.Goals as goal
 
 pub returns-in-Err-clause-fault : goal.returns-in-Err-clause-fault

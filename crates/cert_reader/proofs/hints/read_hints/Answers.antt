@@ -1,4 +1,4 @@
-use Rattle.std.proofs.Common.{sym, ◌∙◌, arith}
+use Rattle.std.proofs.Common.{◌∙◌, arith}
 use Rattle.logic_text.proofs.Places.{bad_at, steps_at}
 use Rattle.cert_reader.specs.Phases.{hints, Has}
 use Rattle.cert_reader.proofs.Lists.{hints_over}

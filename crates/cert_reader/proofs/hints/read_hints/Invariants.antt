@@ -1,4 +1,4 @@
-use Rattle.std.proofs.Common.{◌≡◌, ◌-◌, ◌≤◌, ◌++◌, length, drop, map}
+use Rattle.std.proofs.Common.{◌≡◌, ◌-◌, ◌≤◌, ◌++◌, length, drop}
 use Rattle.logic_text.specs.Certs.{numbers_text}
 use Rattle.logic_text.specs.Phases.{IsUpTo}
 use Rattle.cert_reader.specs.Phases.{hints, Has}

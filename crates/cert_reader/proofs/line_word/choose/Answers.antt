@@ -1,19 +1,19 @@
-use Rattle.std.proofs.Common.{◌≡◌, ℕ, ◌+◌, ◌<◌, ◌≤◌, length, max, drop, arith, below_more, length-drop, subst, sym}
+use Rattle.std.proofs.Common.{◌≡◌, refl, ◌∙◌, ap, ℕ, ◌+◌, ◌<◌, ◌≤◌, length, max, drop, arith, below_more, length-drop, lit<, subst, sym}
 use Rattle.term_reader.specs.Words.{word_at, common_of, furthest_of}
-use Rattle.cert_reader.specs.Words.{words}
-use Rattle.term_reader.proofs.Choosing.{next_row, all_rows, not_whole}
-use Rattle.cert_reader.proofs.LineWords.{word_read, no_word}
+use Rattle.term_reader.proofs.Choosing.{word_read, next_row, all_rows, not_whole, no_word}
+use Rattle.cert_reader.specs.Words.{word_of, words}
+use Rattle.cert_reader.proofs.Forms.{word_is}
 use Rattle.cert_reader.proofs.line_word.choose.Goals as goal
 
 pub returns-then-agreed-row-clause-text : goal.returns-then-agreed-row-clause-text
 returns-then-agreed-row-clause-text c =
     let r = c.in-Some.ensures in
-    (word_read c.loop-row.place c.args.at c.common-agreed.result c.args.bytes.now c.in-Some.row.word.now c.in-Some.row.line r.0 r.1 r.2 c.common-agreed.ensures.count c.if-agreed-row.true).text
+    (word_read words c.loop-row.place c.args.at c.common-agreed.result c.args.bytes.now c.in-Some.row.word.now (word_of c.in-Some.row.line) refl r.0 r.1 (word_is c.loop-row.place r.0 ∙ ap word_of (sym r.2)) c.common-agreed.ensures.count c.if-agreed-row.true).text
 
 pub returns-then-agreed-row-clause-before : goal.returns-then-agreed-row-clause-before
 returns-then-agreed-row-clause-before c =
     let r = c.in-Some.ensures in
-    let s = (word_read c.loop-row.place c.args.at c.common-agreed.result c.args.bytes.now c.in-Some.row.word.now c.in-Some.row.line r.0 r.1 r.2 c.common-agreed.ensures.count c.if-agreed-row.true).some in
+    let s = (word_read words c.loop-row.place c.args.at c.common-agreed.result c.args.bytes.now c.in-Some.row.word.now (word_of c.in-Some.row.line) refl r.0 r.1 (word_is c.loop-row.place r.0 ∙ ap word_of (sym r.2)) c.common-agreed.ensures.count c.if-agreed-row.true).some in
     omega arith
 
 pub loop-row-preserved : goal.loop-row-preserved
@@ -39,7 +39,7 @@ returns-clause-fault c =
     let s = drop c.args.at c.args.bytes.now in
     let e : length words ≤ c.loop-row.place = c.in_default.ensures in
     let n = i.inside in
-    no_word c.args.bytes.now c.args.at c.loop-row.furthest
+    no_word words c.args.bytes.now c.args.at c.loop-row.furthest (lit< tt) refl
     (λ k h. i.none_whole k (omega arith))
     (all_rows words s c.loop-row.place c.loop-row.furthest e i.reached)
     (omega (arith, length-drop c.args.at c.args.bytes.now))

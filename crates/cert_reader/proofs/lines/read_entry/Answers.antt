@@ -1,6 +1,6 @@
 use Rattle.std.proofs.Common.{◌≡◌, rules}
 use Rattle.cert_reader.specs.declared.line_word.LineWord.TheVariants.{End}
-use Rattle.cert_reader.proofs.Wholes.{entry_word_bad, entry_bad, end_bad, end_text, entry_read}
+use Rattle.cert_reader.proofs.Wholes.{entry_word_bad, entry_bad, end_bad, entry_read}
 use Rattle.cert_reader.proofs.lines.read_entry.Goals as goal
 
 pub returns-in-Err-clause-fault : goal.returns-in-Err-clause-fault

@@ -1,4 +1,3 @@
-use Rattle.std.proofs.Common.{drop}
 use Rattle.logic_text.proofs.Places.{bad_at, steps_at}
 use Rattle.cert_reader.specs.Phases.{times, counted, Has}
 use Rattle.cert_reader.proofs.Lists.{literals_are}

@@ -1,4 +1,4 @@
-use Rattle.std.proofs.Common.{◌∙◌, drop, ◌+◌, FitsSigned, rules}
+use Rattle.std.proofs.Common.{◌∙◌, drop, FitsSigned, rules}
 use Rattle.std.proofs.lemmas.Int.{to_z-of_z}
 use Rattle.std.specs.Int.{w128}
 use Rattle.cert_reader.proofs.Leaves.{natural_fault, natural_fits, natural_text}

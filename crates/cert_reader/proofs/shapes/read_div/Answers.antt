@@ -1,13 +1,11 @@
-use Rattle.logic_terms.specs.View.{term as term_of, formula as formula_of}
-use Rattle.std.proofs.Common.{refl, sym, ◌∙◌, ap, ℕ, List, ◌++◌, drop, map, arith, FitsSigned, to_z, of_z, rules}
+use Rattle.logic_terms.specs.View.{term as term_of}
+use Rattle.std.proofs.Common.{◌∙◌, drop, arith, FitsSigned, to_z, of_z, rules}
 use Rattle.std.proofs.lemmas.Int.{to_z-of_z}
 use Rattle.std.specs.Int.{w128}
-use Rattle.cert_lines.specs.Line.{given, opening, choice, propagation, linear, trichotomy, instance, witness, replacing, array_fact, extensionality, field_fact, division, product, computing}
-use Rattle.cert_lines.specs.View.{step as step_of}
-use Rattle.logic_text.specs.Certs.{spaced_number, spaced_whole, spaced_node, literals_text}
-use Rattle.logic_text.specs.Phases.{IsUpTo, IsBadAt}
+use Rattle.cert_lines.specs.Line.{division}
+use Rattle.logic_text.specs.Certs.{spaced_number, spaced_node}
 use Rattle.logic_text.proofs.Places.{bad_at, steps_at}
-use Rattle.cert_reader.specs.Phases.{ended, hints, steps, index, whole, term, formula, counted, Has, fields}
+use Rattle.cert_reader.specs.Phases.{ended, whole, Has, fields}
 use Rattle.cert_reader.specs.declared.line_word.LineWord.TheVariants as line
 use Rattle.cert_reader.proofs.Forms.{text_is, put, whole_as}
 use Rattle.cert_reader.proofs.shapes.read_div.Goals as goal

@@ -1,11 +1,9 @@
-use Rattle.std.proofs.Common.{◌∙◌, ap, ℕ, List, ◌++◌, FitsSigned, rules}
+use Rattle.std.proofs.Common.{FitsSigned, rules}
 use Rattle.std.proofs.lemmas.Int.{to_z-of_z}
 use Rattle.std.specs.Int.{w128}
-use Rattle.logic_terms.specs.View.{term as term_of}
-use Rattle.logic_text.specs.Certs.{spaced_number, spaced_node}
 use Rattle.logic_text.proofs.Places.{bad_at, steps_at}
 use Rattle.cert_reader.proofs.Lists.{scaled_is}
-use Rattle.cert_reader.specs.Phases.{index, whole, term, formula, Has}
+use Rattle.cert_reader.specs.Phases.{index, whole, Has}
 use Rattle.cert_reader.proofs.steps.read_scaled.Goals as goal
 
 pub returns-in-Err-clause-fault : goal.returns-in-Err-clause-fault

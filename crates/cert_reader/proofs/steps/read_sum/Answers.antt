@@ -1,4 +1,4 @@
-use Rattle.std.proofs.Common.{◌+◌, ◌∙◌, ap, sym, FitsSigned, rules}
+use Rattle.std.proofs.Common.{◌+◌, FitsSigned, rules}
 use Rattle.std.proofs.lemmas.Int.{to_z-of_z}
 use Rattle.std.specs.Int.{w128}
 use Rattle.logic_text.proofs.Places.{bad_at, steps_at}

@@ -1,12 +1,12 @@
-//! Words at a place of a text.
+//! A word at a place of a text.
 
 ghost use Rattle.std.specs.Prelude.{◌≡◌, ◌+◌, ◌≤◌, ◌++◌, length, drop, IfOk, IfErr};
-ghost use Rattle.logic_text.specs.Phases.{IsWordFault};
+ghost use Rattle.term_reader.specs.Words.{IsWordFault};
 
-use term_reader::common;
+use crate::words::common;
 
 /// The place after a word that is to stand at a place. The error is the first byte that is another.
-#[tactic(auto, using(logic_text::proofs::WordMarks::word_whole, logic_text::proofs::WordMarks::word_fault))]
+#[tactic(auto, using(crate::proofs::WordPlaces::word_whole, crate::proofs::WordPlaces::word_fault))]
 pub fn read_word(bytes: &[u8], at: usize, word: &[u8]) -> Result<usize, usize>
     requires { at ≤ length bytes.now }
     ensures to { IfOk result (λ to. to ≡ at + length word.now) }

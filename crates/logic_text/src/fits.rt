@@ -1,0 +1,264 @@
+//! The numbers of goals and certificates in memory fit, so that their texts are read back.
+
+ghost use Rattle.std.specs.Prelude.{◌≡◌, true, map};
+ghost use Rattle.logic_terms.specs.View.{term, formula, terms};
+ghost use Rattle.logic_terms.specs.Goal.{problem};
+ghost use Rattle.cert_lines.specs.View.{step as step_of, line as line_of, lines as lines_of};
+ghost use Rattle.term_reader.specs.Values.{are_terms};
+ghost use Rattle.logic_text.specs.Answers.{IsGoal};
+ghost use Rattle.logic_text.specs.Fits.{IsIndex, IsCount, IsNumber, IsTerm, IsFormula, Every, AreLiterals, IsStep, IsLine, AreLines};
+
+use cert_lines::{Cert, CertLine, CertLines, HintList, StepLine, StepLines};
+use logic_terms::{Formula, FormulaList, Goal, Term, TermList};
+
+/// The number of a symbol, a variable, a field, a call, a line or a form.
+fn index_fits(_index: u32)
+    ensures { IsIndex _index }
+{}
+
+/// A whole number.
+fn number_fits(_number: i128)
+    ensures { IsNumber _number }
+{}
+
+/// The length of a list.
+fn count_fits(_count: usize)
+    ensures { IsCount _count }
+{}
+
+#[cycle(fits)]
+fn terms_fit(ts: &TermList)
+    ensures { are_terms (terms ts.now) ≡ true }
+{
+    for t in ts.as_slice() {
+        term_fits(t);
+    }
+}
+
+#[cycle(fits)]
+fn term_fits(t: &Term)
+    ensures { IsTerm (term t.now) }
+{
+    match t {
+        Term::Num(n) => number_fits(*n),
+        Term::Sym(k) | Term::Bound(k) => index_fits(*k),
+        Term::Add(a, b)
+        | Term::Sub(a, b)
+        | Term::Mul(a, b)
+        | Term::Quo(a, b)
+        | Term::Rem(a, b)
+        | Term::Mod(a, b)
+        | Term::Pow(a, b)
+        | Term::Sel(a, b) => {
+            term_fits(a.get());
+            term_fits(b.get());
+        }
+        Term::Bit(p) => formula_fits(p.get()),
+        Term::Ite(p, a, b) => {
+            formula_fits(p.get());
+            term_fits(a.get());
+            term_fits(b.get());
+        }
+        Term::Sto(a, b, c) | Term::Fill(a, b, c) => {
+            term_fits(a.get());
+            term_fits(b.get());
+            term_fits(c.get());
+        }
+        Term::Fst(a) | Term::Lst(a) => term_fits(a.get()),
+        Term::Rec(ts) => terms_fit(ts),
+        Term::Fld(k, r) => {
+            index_fits(*k);
+            term_fits(r.get());
+        }
+        Term::Upd(k, r, v) => {
+            index_fits(*k);
+            term_fits(r.get());
+            term_fits(v.get());
+        }
+        Term::Call(k, ts) => {
+            index_fits(*k);
+            terms_fit(ts);
+        }
+    }
+}
+
+/// A formula.
+#[cycle(fits)]
+pub fn formula_fits(p: &Formula)
+    ensures { IsFormula (formula p.now) }
+{
+    match p {
+        Formula::True | Formula::False => (),
+        Formula::Tru(t) => term_fits(t.get()),
+        Formula::Le(a, b) | Formula::Eq(a, b) => {
+            term_fits(a.get());
+            term_fits(b.get());
+        }
+        Formula::Not(q) => formula_fits(q.get()),
+        Formula::And(q, r) | Formula::Or(q, r) | Formula::Iff(q, r) => {
+            formula_fits(q.get());
+            formula_fits(r.get());
+        }
+        Formula::All(first, last, q) | Formula::Any(first, last, q) => {
+            term_fits(first.get());
+            term_fits(last.get());
+            formula_fits(q.get());
+        }
+    }
+}
+
+/// Formulas in order.
+fn formulas_fit(ps: &FormulaList)
+    ensures { Every IsFormula (map formula ps.now) }
+{
+    for p in ps.as_slice() {
+        formula_fits(p);
+    }
+}
+
+/// The numbers of a goal fit, as machine integers do. The call goes through all its terms and formulas, in time linear in
+/// their size.
+#[tactic(auto, using(crate::proofs::Fitting::each_formula))]
+pub fn goal_fits(g: &Goal)
+    ensures { IsGoal (problem g.now) }
+{
+    formulas_fit(&g.hypotheses);
+    formula_fits(&g.conclusion);
+}
+
+/// The literals of a clause.
+fn literals_fit(literals: &FormulaList)
+    ensures { AreLiterals (map formula literals.now) }
+{
+    count_fits(literals.len());
+    formulas_fit(literals);
+}
+
+/// The numbers of earlier lines.
+fn hints_fit(hints: &HintList)
+    ensures { Every IsIndex hints.now }
+{
+    for hint in hints.as_slice() {
+        index_fits(*hint);
+    }
+}
+
+/// A step over linear forms.
+fn step_fits(step: StepLine)
+    ensures { IsStep (step_of step) }
+{
+    match step {
+        StepLine::Add {
+            first,
+            by_first,
+            second,
+            by_second,
+        } => {
+            index_fits(first);
+            number_fits(by_first);
+            index_fits(second);
+            number_fits(by_second);
+        }
+        StepLine::Tighten(form) => index_fits(form),
+    }
+}
+
+/// Steps in order.
+fn steps_fit(steps: &StepLines)
+    ensures { Every IsStep (map step_of steps.now) }
+{
+    for step in steps.as_slice() {
+        step_fits(*step);
+    }
+}
+
+/// A number and a term.
+fn about_fits(k: u32, t: &Term)
+    ensures number { IsIndex k }
+    ensures term { IsTerm (term t.now) }
+{
+    index_fits(k);
+    term_fits(t);
+}
+
+/// A number and a formula.
+fn of_fits(k: u32, p: &Formula)
+    ensures number { IsIndex k }
+    ensures formula { IsFormula (formula p.now) }
+{
+    index_fits(k);
+    formula_fits(p);
+}
+
+/// Two terms.
+fn pair_fits(a: &Term, b: &Term)
+    ensures first { IsTerm (term a.now) }
+    ensures second { IsTerm (term b.now) }
+{
+    term_fits(a);
+    term_fits(b);
+}
+
+/// A line.
+fn line_fits(line: &CertLine)
+    ensures { IsLine (line_of line.now) }
+{
+    match line {
+        CertLine::Given(k) => index_fits(*k),
+        CertLine::Open { part, formula } => of_fits(*part, formula),
+        CertLine::Case { part, term }
+        | CertLine::Arr { part, term }
+        | CertLine::Fld { part, term } => about_fits(*part, term),
+        CertLine::Rup { literals, hints } => {
+            literals_fit(literals);
+            hints_fit(hints);
+        }
+        CertLine::Lin { literals, steps } => {
+            literals_fit(literals);
+            steps_fit(steps);
+        }
+        CertLine::Tri { left, right }
+        | CertLine::Ext { left, right }
+        | CertLine::Mul { left, right } => pair_fits(left, right),
+        CertLine::Ins { at, formula } => {
+            term_fits(at);
+            formula_fits(formula);
+        }
+        CertLine::New { symbol, formula } => of_fits(*symbol, formula),
+        CertLine::Same {
+            direction,
+            occurrence,
+            equation,
+            literal,
+        } => {
+            of_fits(*direction, equation);
+            of_fits(*occurrence, literal);
+        }
+        CertLine::Div {
+            part,
+            dividend,
+            divisor,
+        } => {
+            about_fits(*part, dividend);
+            number_fits(*divisor);
+        }
+        CertLine::Calc(formula) => formula_fits(formula),
+    }
+}
+
+/// Lines in order.
+fn lines_fit(lines: &CertLines)
+    ensures { Every IsLine (map line_of lines.now) }
+{
+    for line in lines.as_slice() {
+        line_fits(line);
+    }
+}
+
+/// The numbers of a certificate fit, as machine integers do. The call goes through all its lines, in time linear in their
+/// size.
+pub fn cert_fits(c: &Cert)
+    ensures { AreLines (lines_of c.now) }
+{
+    lines_fit(&c.lines)
+}
