@@ -1,0 +1,67 @@
+//! Whether a line is allowed, and the clause that it yields.
+
+ghost use Rattle.std.specs.Prelude.{◌≡◌};
+ghost use Rattle.cert_lines.specs.View.{line as line_of};
+ghost use Rattle.cert_rules.specs.Rules.{judge};
+ghost use Rattle.line_faults.specs.Judges.{Judges, clause};
+ghost use Rattle.linear_lines.specs.Here.{context};
+ghost use Rattle.clause_store.specs.Store.{clauses};
+
+use crate::lines::{
+    array_fact, choice, computing, division, extensionality, field_fact, instance, linear, opening,
+    product, propagation, replacing, trichotomy, witness,
+};
+use cert_lines::CertLine;
+use clause_store::ClauseStore;
+use line_faults::LineFault;
+use logic_terms::{FormulaList, Goal};
+use rule_clauses::hypothesis;
+use std::alloc::Global;
+
+/// The clause of a line after those whose clauses are stored, where `fresh` new symbols are made.
+pub fn judge(
+    alloc: Global,
+    goal: &Goal,
+    fresh: u32,
+    store: &ClauseStore,
+    line: &CertLine,
+) -> Result<FormulaList, LineFault>
+    ensures { Judges clause (judge (context goal.now fresh (clauses store.now)) (line_of line.now)) result }
+{
+    match line {
+        CertLine::Given(k) => hypothesis(alloc, goal, *k),
+        CertLine::Open { part, formula } => opening(alloc, goal, fresh, *part, formula),
+        CertLine::Case { part, term } => choice(alloc, goal, fresh, *part, term),
+        CertLine::Rup { literals, hints } => {
+            propagation(alloc, goal, fresh, store, literals, hints)
+        }
+        CertLine::Lin { literals, steps } => linear(alloc, goal, fresh, literals, steps),
+        CertLine::Tri { left, right } => trichotomy(alloc, goal, fresh, left, right),
+        CertLine::Ins { at, formula } => instance(alloc, goal, fresh, at, formula),
+        CertLine::New { symbol, formula } => witness(alloc, goal, fresh, *symbol, formula),
+        CertLine::Same {
+            direction,
+            occurrence,
+            equation,
+            literal,
+        } => replacing(
+            alloc,
+            goal,
+            fresh,
+            *direction,
+            *occurrence,
+            equation,
+            literal,
+        ),
+        CertLine::Arr { part, term } => array_fact(alloc, goal, fresh, *part, term),
+        CertLine::Ext { left, right } => extensionality(alloc, goal, fresh, left, right),
+        CertLine::Fld { part, term } => field_fact(alloc, goal, fresh, *part, term),
+        CertLine::Div {
+            part,
+            dividend,
+            divisor,
+        } => division(alloc, goal, fresh, *part, dividend, *divisor),
+        CertLine::Mul { left, right } => product(alloc, goal, fresh, left, right),
+        CertLine::Calc(formula) => computing(alloc, goal, fresh, formula),
+    }
+}
