@@ -4,7 +4,5 @@
 mod assumed;
 mod propagation;
 mod store;
-#[cfg(test)]
-mod tests;
 
 pub use store::ClauseStore;

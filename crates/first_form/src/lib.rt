@@ -9,10 +9,6 @@ mod names;
 mod places;
 mod procedures;
 mod spelled;
-#[cfg(test)]
-mod tests;
-#[cfg(test)]
-mod tree_tests;
 
 pub use form::{Assertion, AssertionList, FirstForm, FormFault, Operand, Placed};
 pub use laws::{forms_are_forms, places_are_in_file};

@@ -5,8 +5,6 @@ mod formulas;
 mod given;
 mod laws;
 mod rows;
-#[cfg(test)]
-mod tests;
 mod verdicts;
 
 pub use laws::proved_rows_hold;

@@ -14,6 +14,3 @@ pub use keeper_io::{
 };
 pub use run::run_alone;
 pub use status::Status;
-
-#[cfg(test)]
-mod tests;

@@ -9,7 +9,7 @@ ghost use Rattle.linear_forms.specs.View.{linear, Makes};
 use crate::fault::FormFault;
 use crate::form::{LinearForm, Part};
 use crate::gather::{add_multiples, add_products};
-use crate::gcd::{divisor, floor_quotient};
+use crate::divisor::{divisor, floor_quotient};
 use crate::numbers::{product, sum};
 use logic_terms::{Starved, Term};
 use sqlite_items::{Boxed, Items};

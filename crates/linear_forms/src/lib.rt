@@ -2,17 +2,16 @@
 #![tactic(auto)]
 
 mod build;
+mod divisor;
 mod fault;
 mod form;
 mod gather;
-mod gcd;
 mod laws;
 mod numbers;
 mod place;
-#[cfg(test)]
-mod tests;
 
 pub use build::{add_scaled, form_of, tighten};
 pub use fault::FormFault;
 pub use form::{LinearForm, Part};
+pub use divisor::{floor_quotient, gcd};
 pub use laws::{laws_of_forms, laws_of_order, laws_of_tightening};

@@ -6,7 +6,5 @@ mod line;
 mod refuted;
 mod steps;
 mod terms;
-#[cfg(test)]
-mod tests;
 
 pub use line::linear_line;

@@ -5,8 +5,8 @@
 mod answer;
 mod decision;
 mod elimination;
+mod factor;
 mod forms;
-mod gcd;
 mod laws;
 mod lines;
 mod machine;

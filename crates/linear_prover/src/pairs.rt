@@ -7,7 +7,7 @@ ghost use Rattle.linear_prover.specs.Elimination.{summed, paired};
 ghost use Rattle.linear_prover.specs.View.{made_of, state, Runs};
 
 use crate::answer::LinearAnswer;
-use crate::gcd::factor;
+use crate::factor::factor;
 use crate::machine::{LinearMachine, MadeForm};
 use cert_lines::StepLine;
 use linear_forms::{FormFault, add_scaled};

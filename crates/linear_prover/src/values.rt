@@ -9,9 +9,8 @@ ghost use Rattle.linear_prover.specs.ValueView.{known_value, known_values, value
 
 use crate::answer::LinearAnswer;
 use crate::forms::coefficient;
-use crate::gcd::floor_quotient;
 use crate::machine::{MadeForm, SetAside};
-use linear_forms::{LinearForm, Part};
+use linear_forms::{LinearForm, Part, floor_quotient};
 use logic_terms::{Starved, Term, same_term};
 use sqlite_items::Items;
 use std::alloc::Global;

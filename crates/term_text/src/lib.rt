@@ -2,8 +2,6 @@
 #![tactic(auto)]
 
 mod laws;
-#[cfg(test)]
-mod tests;
 mod text;
 
 pub use laws::{laws_of_text_order, texts_are_injective};

@@ -1,6 +1,6 @@
 use Rattle.std.proofs.Common.{ℕ}
 use Rattle.std.specs.Int.{IsGcd}
-use Rattle.linear_prover.proofs.gcd.gcd.Given as goal
+use Rattle.linear_forms.proofs.divisor.gcd.Given as goal
 
 abbrev pub decreases-loop-y : goal.decreases-loop-y
 decreases-loop-y l = l.y

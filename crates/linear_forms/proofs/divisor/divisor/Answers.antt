@@ -3,7 +3,7 @@ use Rattle.std.specs.Prelude.{FitsSigned, unsigned_abs}
 use Rattle.std.specs.Int.{w128, IsGcd}
 use Rattle.std.proofs.lemmas.Int.{to_z-of_z}
 use Rattle.linear_forms.proofs.Divisors.{divisor_start, divisor_more, divisor_end}
-use Rattle.linear_forms.proofs.gcd.divisor.Goals as goal
+use Rattle.linear_forms.proofs.divisor.divisor.Goals as goal
 
 pub loop-part-init : goal.loop-part-init
 loop-part-init c = divisor_start

@@ -1,6 +1,6 @@
 //! Whole runs over a keeper and a sink in memory.
 
-use crate::{Entry, ListSink, MapKeeper, Status, run_alone};
+use gnatprove_core::{Entry, ListSink, MapKeeper, Status, run_alone};
 use ada_values::{ByteList, NameText, WordList};
 use sqlite_items::Items;
 use std::alloc::{AllocError, Global};

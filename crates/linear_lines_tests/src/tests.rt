@@ -1,6 +1,6 @@
 //! Linear clauses worked out by hand.
 
-use crate::linear_line;
+use linear_lines::linear_line;
 use cert_lines::StepLine;
 use line_faults::LineFault;
 use logic_terms::{Formula, FormulaList, Goal, Role, Sort, Starved, Symbol, Term};

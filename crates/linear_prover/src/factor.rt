@@ -1,30 +1,14 @@
-//! Factors of the least combination, and division.
+//! Factors of the least combination.
 
-ghost use Rattle.std.specs.Prelude.{◌≡◌, ◌<◌, ◌/◌, pos};
-ghost use Rattle.std.specs.Int.{IsGcd};
+ghost use Rattle.std.specs.Prelude.{◌≡◌, ◌/◌, pos};
 ghost use Rattle.logic_terms.specs.View.{term};
-ghost use Rattle.linear_forms.specs.Form.{floor};
 ghost use Rattle.linear_forms.specs.View.{linear};
 ghost use Rattle.linear_prover.specs.Forms.{factor as factor_of};
 ghost use Rattle.linear_prover.specs.Values.{narrow};
 
 use crate::forms::coefficient;
-use linear_forms::LinearForm;
+use linear_forms::{LinearForm, gcd};
 use logic_terms::Term;
-
-/// The greatest common divisor, by remainders.
-fn gcd(a: u128, b: u128) -> u128
-    ensures { IsGcd a b result }
-{
-    let mut x = a;
-    let mut y = b;
-    while y != 0 {
-        let rest = x % y;
-        x = y;
-        y = rest;
-    }
-    x
-}
 
 /// The quotient, if it fits; 0 where the divisor is 0.
 fn quotient(x: u128, by: u128) -> Option<i128>
@@ -48,17 +32,4 @@ pub fn factor(v: &Term, f: &LinearForm, g: &LinearForm) -> Option<i128>
     let first = coefficient(v, f.parts.as_slice()).unsigned_abs();
     let second = coefficient(v, g.parts.as_slice()).unsigned_abs();
     quotient(second, gcd(first, second))
-}
-
-/// The greatest whole number that is at most `x` divided by `by`.
-pub fn floor_quotient(x: i128, by: u128) -> i128
-    requires { 0 < by }
-    ensures { result ≡ floor x by }
-{
-    if x < 0 {
-        let below = (-(x + 1)) as u128 / by;
-        -1 - below as i128
-    } else {
-        (x as u128 / by) as i128
-    }
 }

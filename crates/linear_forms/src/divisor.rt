@@ -1,4 +1,4 @@
-//! The greatest common divisor of coefficients, and division by it.
+//! Greatest common divisors, and division by them.
 
 ghost use Rattle.std.specs.Prelude.{◌≡◌, ◌<◌};
 ghost use Rattle.std.specs.Int.{IsGcd};
@@ -7,8 +7,8 @@ ghost use Rattle.linear_forms.specs.View.{parts as monomials};
 
 use crate::form::Part;
 
-/// The greatest common divisor, by remainders.
-fn gcd(a: u128, b: u128) -> u128
+/// The greatest common divisor, 0 where both are 0, by remainders.
+pub fn gcd(a: u128, b: u128) -> u128
     ensures { IsGcd a b result }
 {
     let mut x = a;

@@ -1,6 +1,6 @@
 //! Texts by hand, and their order.
 
-use crate::{precedes, text_of};
+use term_text::{precedes, text_of};
 use logic_terms::{Formula, Starved, Term, TermList};
 use sqlite_items::{Boxed, Items};
 use std::alloc::Global;

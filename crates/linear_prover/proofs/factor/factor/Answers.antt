@@ -7,7 +7,7 @@ use Rattle.linear_forms.specs.View.{parts}
 use Rattle.linear_forms.specs.declared.form.Part.{Part}
 use Rattle.linear_prover.specs.Forms.{coefficient}
 use Rattle.linear_prover.proofs.Factors.{factor_is}
-use Rattle.linear_prover.proofs.gcd.factor.Goals as goal
+use Rattle.linear_prover.proofs.factor.factor.Goals as goal
 
 pub returns : goal.returns
 returns c =

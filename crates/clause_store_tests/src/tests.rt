@@ -1,6 +1,6 @@
 //! Propagation worked out by hand. A literal is written as a number, its negation as the number below 0.
 
-use crate::ClauseStore;
+use clause_store::ClauseStore;
 use logic_terms::{Formula, FormulaList, Starved, Term};
 use sqlite_items::{Boxed, Items};
 use std::alloc::Global;

@@ -1,6 +1,6 @@
 //! Forms by hand: which keep the limits, and where an unknown name stands.
 
-use crate::{Assertion, FirstForm, Operand, Placed, first_unknown, is_form, position_of};
+use first_form::{Assertion, FirstForm, Operand, Placed, first_unknown, is_form, position_of};
 use ada_values::{NameList, NameText, Place};
 use sqlite_items::Items;
 use std::alloc::{AllocError, Global};

@@ -1,6 +1,6 @@
 //! Rows of small forms, worked out by hand.
 
-use crate::{Row, RowList, rows_of};
+use form_prover::{Row, RowList, rows_of};
 use ada_values::{NameList, NameText, Place};
 use first_form::{Assertion, FirstForm, Operand, Placed, is_form};
 use logic_terms::Starved;

@@ -1,6 +1,6 @@
 //! Forms worked out by hand, and numbers at the edges of 128 bits.
 
-use crate::{FormFault, LinearForm, Part, add_scaled, form_of, tighten};
+use linear_forms::{FormFault, LinearForm, Part, add_scaled, form_of, tighten};
 use logic_terms::{Starved, Term};
 use sqlite_items::{Boxed, Items};
 use std::alloc::Global;
