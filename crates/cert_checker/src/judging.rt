@@ -1,6 +1,5 @@
 //! Whether a line is allowed, and the clause that it yields.
 
-ghost use Rattle.std.specs.Prelude.{◌≡◌};
 ghost use Rattle.cert_lines.specs.View.{line as line_of};
 ghost use Rattle.cert_rules.specs.Rules.{judge};
 ghost use Rattle.line_faults.specs.Judges.{Judges, clause};

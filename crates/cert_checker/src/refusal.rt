@@ -12,7 +12,7 @@ pub enum CertRefusal {
     Wide(u32),
     /// Each line is allowed, and the last clause is not empty.
     NoEnd,
-    /// There was no memory left.
+    /// There was no memory left, or there are 2^32 lines or more.
     Starved,
 }
 

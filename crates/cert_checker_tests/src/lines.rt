@@ -1,6 +1,6 @@
 //! Lines of each rule that are allowed and refused, by their texts.
 
-use crate::answers::{answer, answer_to_line};
+use crate::answers::answer_to_line;
 use cert_checker::CertRefusal;
 use cert_lines::Rule;
 use std::alloc::Global;

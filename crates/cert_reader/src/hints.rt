@@ -1,6 +1,6 @@
 //! The numbers of earlier lines at the end of a line.
 
-ghost use Rattle.std.specs.Prelude.{◌≡◌, ◌≢◌, ◌<◌, ◌≤◌, ◌++◌, ℕ, List, length, drop, IfOk, IfErr};
+ghost use Rattle.std.specs.Prelude.{◌≡◌, ◌<◌, ◌≤◌, ◌++◌, ℕ, List, length, drop, IfOk, IfErr};
 ghost use Rattle.term_reader.specs.Bytes.{first};
 ghost use Rattle.logic_text.specs.Certs.{numbers_text};
 ghost use Rattle.logic_text.specs.Phases.{IsUpTo, IsBadAt};

@@ -1,6 +1,6 @@
 //! Certificates read from their texts.
 
-ghost use Rattle.std.specs.Prelude.{◌≡◌, ◌≤◌, length, codes, IfOk, IfErr};
+ghost use Rattle.std.specs.Prelude.{◌≡◌, ◌≤◌, length, IfOk, IfErr};
 ghost use Rattle.cert_lines.specs.View.{lines as lines_of};
 ghost use Rattle.logic_text.specs.Certs.{cert_bytes};
 ghost use Rattle.logic_text.specs.Phases.{IsBadAt};

@@ -1,6 +1,6 @@
 //! Lines after their words.
 
-ghost use Rattle.std.specs.Prelude.{◌≡◌, ◌≢◌, ◌≤◌, length, IfOk, IfErr};
+ghost use Rattle.std.specs.Prelude.{◌≢◌, ◌≤◌, length, IfOk, IfErr};
 ghost use Rattle.logic_text.specs.Phases.{IsBadAt};
 ghost use Rattle.cert_reader.specs.Entries.{IsFields};
 ghost use Rattle.cert_reader.specs.Phases.{fields, Has};

@@ -4,7 +4,7 @@ use Rattle.std.proofs.lemmas.Bool.{and_parts, and_from, false≢true, eqb-true}
 use Rattle.std.proofs.lemmas.Int.{ints}
 use Rattle.std.specs.Prelude.{ℤ, pos, negsuc, ◌+ℤ◌, ◌-ℤ◌, ◌≤ℤ◌, int_le, if◌then◌else◌}
 use Rattle.logic_terms.specs.Node.{Node}
-use Rattle.logic_terms.specs.Value.{Kind, numbers, truths, arrays, records, Kinds, no_kinds, kind, Value, number, truth, array, record_of, Values, no_values, value, as_truth, default, value_at, with_value, count, up_to, steps, same_kind, same_int, same_value, same_values}
+use Rattle.logic_terms.specs.Value.{Kind, numbers, truths, arrays, records, Kinds, no_kinds, kind, Value, number, truth, array, record_of, Values, no_values, value, as_truth, default, value_at, with_value, count, up_to, same_kind, same_int, same_value, same_values}
 use Rattle.logic_terms.specs.Meaning.{World, meaning, holds, item, stored, first, last, within, field, with_field}
 use Rattle.logic_terms.specs.Sorting.{Signature, IsWorldOf, HasKind, node_kind, is_of, are_of, length_of, nth_kind}
 use Rattle.logic_terms.specs.Arrays.{has_item, is_whole}

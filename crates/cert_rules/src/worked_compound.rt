@@ -1,7 +1,7 @@
 //! Lines of equals for equals, of arrays, records and division that are judged by hand, by specs/WorkedCompound.antt.
 
 ghost use Rattle.std.specs.Prelude.{◌≡◌, [], ◌∷◌, pos, negsuc};
-ghost use Rattle.logic_terms.specs.Node.{num, bound, op1, op2, tru, disj, eq, quant, any};
+ghost use Rattle.logic_terms.specs.Node.{bound, op1, op2, tru, disj, eq, quant, any};
 ghost use Rattle.cert_lines.specs.Line.{replacing, array_fact, extensionality, field_fact, division};
 ghost use Rattle.cert_rules.specs.Judged.{yields, refused};
 ghost use Rattle.cert_rules.specs.Rules.{judge};

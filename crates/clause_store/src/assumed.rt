@@ -1,7 +1,6 @@
 //! Formulas that are assumed, as a set of their texts.
 
-ghost use Rattle.std.specs.Prelude.{◌≡◌, IfOk, OnOk, List, map};
-ghost use Rattle.logic_terms.specs.Node.{Node};
+ghost use Rattle.std.specs.Prelude.{◌≡◌, IfOk, OnOk, map};
 ghost use Rattle.logic_terms.specs.View.{formula};
 ghost use Rattle.logic_terms.specs.Binding.{negated};
 ghost use Rattle.clause_store.specs.Assumed.{key_of, assumes, Adds, Agrees};

@@ -1,6 +1,6 @@
 //! Propagation of unit clauses.
 
-ghost use Rattle.std.specs.Prelude.{◌≡◌, ℕ, IfOk, List, map, option_map};
+ghost use Rattle.std.specs.Prelude.{◌≡◌, IfOk, List, map, option_map};
 ghost use Rattle.logic_terms.specs.Node.{Node};
 ghost use Rattle.logic_terms.specs.View.{formula};
 ghost use Rattle.std.specs.Option.{option_copied};

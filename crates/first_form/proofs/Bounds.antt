@@ -1,6 +1,6 @@
 -- What a form's limits say.
-use Rattle.std.proofs.Common.{◌≡◌, Bool, true, false, refl, ◌≤◌, ℕ, List, length, arith}
-use Rattle.std.specs.Prelude.{◌&&◌, nat_le, not}
+use Rattle.std.proofs.Common.{◌≡◌, Bool, true, false, refl, ◌≤◌, ℕ, length, arith}
+use Rattle.std.specs.Prelude.{◌&&◌, nat_le}
 use Rattle.std.specs.List.{list_all}
 use Rattle.std.proofs.lemmas.Bool.Decides.{nat_tests}
 use Rattle.first_form.specs.declared.form.FirstForm.{FirstForm}

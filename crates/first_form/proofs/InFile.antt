@@ -1,14 +1,13 @@
 -- The places of the form of a tree are in its file.
-use Rattle.std.proofs.Common.{◌≡◌, ℕ, ◌-◌, ◌^◌, ◌<◌, ◌≤◌, Bool, true, false, Option, Some, None, List, [], ◌∷◌, length, take, drop, reverse, All, refl, sym, ap, ◌∙◌, subst, arith}
-use Rattle.std.specs.Prelude.{◌&&◌, ◌==◌, if◌then◌else◌, is_none, option_map, option_and_then, count_by}
-use Rattle.std.specs.List.{prefix_len}
+use Rattle.std.proofs.Common.{◌≡◌, ℕ, ◌-◌, ◌^◌, ◌<◌, ◌≤◌, Bool, true, false, Option, Some, None, List, [], ◌∷◌, length, take, reverse, All, refl, ap, subst, arith}
+use Rattle.std.specs.Prelude.{◌&&◌, ◌==◌, if◌then◌else◌, is_none, option_map, option_and_then}
 use Rattle.std.proofs.lemmas.List.{length-drop, length-take, length-reverse}
 use Rattle.std.proofs.lemmas.List.Elements.{All-nil, All-cons}
 use Rattle.std.proofs.lemmas.List.Sums.{count_by-le-length, prefix_len-le-length}
 use Rattle.ada_values.specs.declared.place.Place.{Place}
 use Rattle.ada_text.specs.declared.token.Span.{Span}
 use Rattle.ada_text.specs.Bytes.{is_in_line, skipped}
-use Rattle.ada_text.specs.Places.{column_after, counted_before, line_after}
+use Rattle.ada_text.specs.Places.{counted_before}
 use Rattle.typed_units.specs.declared.operators.Relation.{Relation}
 use Rattle.ada_syntax.specs.declared.expressions.ExprNode.{ExprNode}
 use Rattle.ada_syntax.specs.declared.expressions.ExprNode.TheVariants as node
@@ -28,8 +27,8 @@ use Rattle.first_form.specs.declared.form.Assertion.{Assertion}
 use Rattle.first_form.specs.declared.form.Placed.{Placed}
 use Rattle.first_form.specs.declared.form.Operand.{Operand}
 use Rattle.first_form.specs.Form.{is_form}
-use Rattle.first_form.specs.Spelled.{IsInFile, is_word, place_at, text_at}
-use Rattle.first_form.specs.Tree.{action_in, argument_in, assertion_of, body_in, comparison_in, each, form_of, form_with, is_empty, is_ended, kept, operand_in, param_in, placed_in, pragma_in, procedure_in, relation_of, shape_of, statement_in, unit_in, with_first}
+use Rattle.first_form.specs.Spelled.{IsInFile, place_at, text_at}
+use Rattle.first_form.specs.Tree.{action_in, argument_in, assertion_of, body_in, comparison_in, each, form_of, form_with, is_empty, is_ended, kept, operand_in, param_in, placed_in, pragma_in, relation_of, shape_of, statement_in, unit_in, with_first}
 
 abbrev HasPlaces : Assertion → Type 0
 HasPlaces a = IsInFile a.place × IsInFile a.left.place × IsInFile a.right.place

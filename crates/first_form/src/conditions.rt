@@ -2,8 +2,6 @@
 
 ghost use Rattle.std.specs.Prelude.{◌≡◌, ◌<◌, ◌-◌, ◌^◌, IfOk, None, Some, length};
 ghost use Rattle.std.specs.Option.{option_copied};
-ghost use Rattle.ada_syntax.specs.declared.expressions.Expr.{out-Expr};
-ghost use Rattle.ada_syntax.specs.declared.statements.Stmt.{out-Stmt};
 ghost use Rattle.first_form.specs.Tree.{argument_in, assertion_of, chosen_in, comparison_in, each, name_in, number_in, operand_in, placed_in, plain_in, pragma_in, relation_of, statement_in};
 
 use crate::form::{Assertion, AssertionList, FormFault, Operand, Placed};

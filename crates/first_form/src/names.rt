@@ -1,6 +1,6 @@
 //! Names that a file of the form may declare.
 
-ghost use Rattle.std.specs.Prelude.{◌≡◌, ◌≤◌, length, map};
+ghost use Rattle.std.specs.Prelude.{◌≡◌, map};
 ghost use Rattle.first_form.specs.Names.{are_different, is_among, is_name, is_predefined, same_name};
 
 use ada_values::NameText;

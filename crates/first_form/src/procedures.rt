@@ -2,7 +2,6 @@
 
 ghost use Rattle.std.specs.Prelude.{◌≡◌, ◌<◌, ◌-◌, ◌^◌, IfOk, None, Some, length};
 ghost use Rattle.first_form.specs.declared.form.FirstForm.{FirstForm};
-ghost use Rattle.first_form.specs.Form.{IsForm};
 ghost use Rattle.first_form.specs.Tree.{body_in, each, form_of, form_with, is_ended, is_in, is_integer, one_in, param_in, procedure_in, shape_of, statement_in, unit_in};
 ghost use Rattle.first_form.specs.Spelled.{text_at};
 

@@ -1,7 +1,7 @@
 //! Forms by hand: which keep the limits, and where an unknown name stands.
 
-use first_form::{Assertion, FirstForm, Operand, Placed, first_unknown, is_form, position_of};
 use ada_values::{NameList, NameText, Place};
+use first_form::{Assertion, FirstForm, Operand, Placed, first_unknown, is_form, position_of};
 use sqlite_items::Items;
 use std::alloc::{AllocError, Global};
 use std::test::Fail;

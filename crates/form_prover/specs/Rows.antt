@@ -5,7 +5,7 @@ use Rattle.typed_units.specs.declared.checks.CheckKind.{CheckKind}
 use Rattle.typed_units.specs.declared.checks.CheckKind.TheVariants as kind
 use Rattle.typed_units.specs.declared.checks.SiteKey.{SiteKey}
 use Rattle.typed_units.specs.Syntax as text
-use Rattle.typed_units.specs.Syntax.{at, St, st, assert, Sts, done, Routine, Text}
+use Rattle.typed_units.specs.Syntax.{at, st, assert, Sts, Routine, Text}
 use Rattle.ada_semantics.specs.Outcome.{site}
 use Rattle.vc_tree.specs.Tree.{Tree}
 use Rattle.vc_tree.specs.Goals.{SiteGoal, goals_of}

@@ -6,10 +6,10 @@ ghost use Rattle.linear_forms.specs.Form.{form, monomial, form_of_node, combined
 ghost use Rattle.linear_forms.specs.Fits.{node_fits, combining_fits, multiplying_fits};
 ghost use Rattle.linear_forms.specs.View.{linear, Makes};
 
+use crate::divisor::{divisor, floor_quotient};
 use crate::fault::FormFault;
 use crate::form::{LinearForm, Part};
 use crate::gather::{add_multiples, add_products};
-use crate::divisor::{divisor, floor_quotient};
 use crate::numbers::{product, sum};
 use logic_terms::{Starved, Term};
 use sqlite_items::{Boxed, Items};

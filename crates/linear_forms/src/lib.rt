@@ -11,7 +11,7 @@ mod numbers;
 mod place;
 
 pub use build::{add_scaled, form_of, tighten};
+pub use divisor::{floor_quotient, gcd};
 pub use fault::FormFault;
 pub use form::{LinearForm, Part};
-pub use divisor::{floor_quotient, gcd};
 pub use laws::{laws_of_forms, laws_of_order, laws_of_tightening};

@@ -1,6 +1,6 @@
 //! Where a variable stands among others.
 
-ghost use Rattle.std.specs.Prelude.{◌≡◌, IfOk};
+ghost use Rattle.std.specs.Prelude.{IfOk};
 ghost use Rattle.logic_terms.specs.View.{term};
 ghost use Rattle.linear_forms.specs.View.{parts as monomials};
 ghost use Rattle.linear_forms.specs.Places.{IsPlace};

@@ -1,6 +1,6 @@
 //! The forms that the negations of literals say are at least 0.
 
-ghost use Rattle.std.specs.Prelude.{◌≡◌, Bool, map};
+ghost use Rattle.std.specs.Prelude.{Bool, map};
 ghost use Rattle.logic_terms.specs.View.{term, formula};
 ghost use Rattle.logic_terms.specs.Binding.{negated};
 ghost use Rattle.linear_forms.specs.Form.{Form};

@@ -1,6 +1,6 @@
 //! Rule C4.
 
-ghost use Rattle.std.specs.Prelude.{◌≡◌, List, map};
+ghost use Rattle.std.specs.Prelude.{List, map};
 ghost use Rattle.logic_terms.specs.Node.{Node};
 ghost use Rattle.logic_terms.specs.View.{formula};
 ghost use Rattle.cert_lines.specs.View.{step};

@@ -1,6 +1,6 @@
 //! Steps over linear forms.
 
-ghost use Rattle.std.specs.Prelude.{◌≡◌, map};
+ghost use Rattle.std.specs.Prelude.{map};
 ghost use Rattle.linear_forms.specs.View.{linear};
 ghost use Rattle.cert_lines.specs.View.{step};
 ghost use Rattle.cert_rules.specs.Linear.{form_at, stepped, run_steps};

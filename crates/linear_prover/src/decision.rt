@@ -69,6 +69,9 @@ impl LinearMachine {
 /// Each form is tightened as it is appended: a negative constant ends with `Refuted`, other constants and exact repeats of a
 /// form that stands are dropped. Each pair of a positive and a negative form takes one step of the budget, which is what is left
 /// in the end; where it is 0, the answer is `StepsOut`. Then values are chosen. `Starved` leaves the budget as it is.
+///
+/// What the answers say of the forms is in `laws_of_points` and `laws_of_refutations`. The values of a `Point` are right of
+/// forms as `form_of` makes them: with their variables in the order of their texts, each once, and no coefficient 0.
 pub fn decide(alloc: Global, forms: &FormList, budget: &mut u64) -> Result<LinearAnswer, Starved>
     ensures found { IfOk result (λ a. decide_of (map linear forms.now) budget.old ≡ decided (answer a) budget.new) }
     ensures starved { OnErr result (budget.new ≡ budget.old) }

@@ -1,6 +1,6 @@
 //! The lines of a refutation.
 
-ghost use Rattle.std.specs.Prelude.{◌≡◌, ◌+◌, ◌^◌, ◌<◌, IfOk, map, length, count_by, nat_lt, IsTrue};
+ghost use Rattle.std.specs.Prelude.{◌≡◌, ◌+◌, ◌^◌, ◌<◌, IfOk, map, length, count_by, nat_lt};
 ghost use Rattle.cert_lines.specs.View.{step};
 ghost use Rattle.linear_prover.specs.Lines.{uses as uses_form, is_used as is_used_in, with_needed, needed as needed_for, renumbered, line as line_of, lines_of, lines as lines_for};
 ghost use Rattle.linear_prover.specs.LineView.{numbered_step};

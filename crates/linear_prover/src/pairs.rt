@@ -1,6 +1,5 @@
 //! Pairs of a positive and a negative form.
 
-ghost use Rattle.std.specs.Prelude.{◌≡◌};
 ghost use Rattle.logic_terms.specs.View.{term};
 ghost use Rattle.linear_prover.specs.Machine.{each};
 ghost use Rattle.linear_prover.specs.Elimination.{summed, paired};

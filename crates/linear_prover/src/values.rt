@@ -5,7 +5,7 @@ ghost use Rattle.logic_terms.specs.View.{term};
 ghost use Rattle.linear_forms.specs.View.{linear, part as monomial_of, parts as monomials};
 ghost use Rattle.linear_prover.specs.Values.{narrow, value_in, with_others as with_monomial_of_others, sum_without as sum_of_others, bounded as bounded_at, bounded_by as bounded_by_form, bounded_by_all as bounded_by_forms, greater, lesser, is_at_least, nearest as nearest_in, range, chosen};
 ghost use Rattle.linear_prover.specs.View.{answer, aside_of};
-ghost use Rattle.linear_prover.specs.ValueView.{known_value, known_values, value_range, ranged};
+ghost use Rattle.linear_prover.specs.ValueView.{known_values, value_range, ranged};
 
 use crate::answer::LinearAnswer;
 use crate::forms::coefficient;

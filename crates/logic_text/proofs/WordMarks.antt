@@ -1,5 +1,5 @@
 -- Words that are not read, where something may follow.
-use Rattle.std.proofs.Common.{◌≡◌, sym, ◌∙◌, ap, ℕ, List, ◌∷◌, ◌++◌, append_assoc}
+use Rattle.std.proofs.Common.{sym, ◌∙◌, ap, ℕ, List, ◌∷◌, ◌++◌, append_assoc}
 use Rattle.std.proofs.lemmas.List.{append_cancel_left}
 use Rattle.term_reader.specs.Bytes.{first}
 use Rattle.term_reader.specs.Words.{IsWordFault}

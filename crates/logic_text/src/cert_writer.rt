@@ -1,6 +1,6 @@
 //! The text of a certificate.
 
-ghost use Rattle.std.specs.Prelude.{◌≡◌, ◌++◌, OnOk, IfOk, codes, map};
+ghost use Rattle.std.specs.Prelude.{◌≡◌, ◌++◌, OnOk, IfOk, map};
 ghost use Rattle.logic_terms.specs.View.{term, formula};
 ghost use Rattle.cert_lines.specs.View.{step as step_of, line as line_of, lines as lines_of};
 ghost use Rattle.logic_text.specs.Fits.{AreLines};

@@ -1,9 +1,8 @@
 //! Goals read from their texts.
 
-ghost use Rattle.std.specs.Prelude.{◌≡◌, ◌≢◌, ◌+◌, ◌<◌, ◌≤◌, ◌∷◌, ◌++◌, ℕ, List, [], None, All, length, drop, map, codes, IfOk, IfErr};
-ghost use Rattle.logic_terms.specs.Goal.{called_as, problem};
+ghost use Rattle.std.specs.Prelude.{◌≡◌, ◌≢◌, ◌+◌, ◌<◌, ◌≤◌, ◌++◌, ℕ, List, length, drop, map, IfOk, IfErr};
+ghost use Rattle.logic_terms.specs.Goal.{problem};
 ghost use Rattle.logic_terms.specs.View.{formula};
-ghost use Rattle.logic_terms.specs.declared.goal.Role.{Role};
 ghost use Rattle.term_reader.specs.Bytes.{first};
 ghost use Rattle.term_text.specs.Text.{node_text};
 ghost use Rattle.logic_text.specs.Answers.{IsPlain, IsGoalFault, most_goal_bytes};

@@ -1,6 +1,6 @@
 //! Numbers, terms and formulas as parts of a text, each with a space before it.
 
-ghost use Rattle.std.specs.Prelude.{◌≡◌, ◌++◌, OnOk, codes};
+ghost use Rattle.std.specs.Prelude.{◌≡◌, ◌++◌, OnOk};
 ghost use Rattle.logic_terms.specs.View.{term, formula};
 ghost use Rattle.term_text.specs.Text.{number_text, whole_text};
 ghost use Rattle.logic_text.specs.Certs.{spaced_number, spaced_whole, spaced_node};

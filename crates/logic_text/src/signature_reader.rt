@@ -2,12 +2,10 @@
 
 ghost use Rattle.std.specs.Prelude.{◌≡◌, ◌≢◌, ◌+◌, ◌<◌, ◌≤◌, ◌∷◌, ◌++◌, ℕ, List, None, All, length, drop, map, codes, IfOk, IfErr};
 ghost use Rattle.logic_terms.specs.Goal.{called_as};
-ghost use Rattle.logic_terms.specs.Sorts.{sort as kind_of, kinds_in};
 ghost use Rattle.logic_terms.specs.declared.goal.Role.{Role};
 ghost use Rattle.term_reader.specs.Bytes.{first};
-ghost use Rattle.term_reader.specs.Sorts.{kind_text};
 ghost use Rattle.logic_text.specs.Answers.{kinds_of};
-ghost use Rattle.logic_text.specs.Goals.{line_end, sorts_text, taken_text, call_text, calls_text};
+ghost use Rattle.logic_text.specs.Goals.{sorts_text, call_text, calls_text};
 ghost use Rattle.logic_text.specs.Phases.{After, AtStart, InSorts, InCalls, InCall, InLines, IsUpTo, IsBadAt};
 ghost use Rattle.logic_text.specs.Takens.{IsTaken};
 

@@ -1,6 +1,6 @@
 //! The truth that is computed.
 
-ghost use Rattle.std.specs.Prelude.{◌≡◌, [], IsTrue};
+ghost use Rattle.std.specs.Prelude.{[], IsTrue};
 ghost use Rattle.logic_terms.specs.Names.{is_constant};
 ghost use Rattle.logic_terms.specs.Run.{most_nodes, run};
 ghost use Rattle.logic_terms.specs.View.{formula};

@@ -1,5 +1,5 @@
 -- At most one answer is right for a text.
-use Rattle.std.proofs.Common.{◌≡◌, ◌∙◌, sym, ap, subst, ℕ, List, Result, Ok, Err}
+use Rattle.std.proofs.Common.{◌≡◌, ◌∙◌, sym, subst, ℕ, List, Ok, Err}
 use Rattle.ada_text.specs.declared.token.Token.{Token}
 use Rattle.ada_text.specs.declared.token.LexFault.{LexFault}
 use Rattle.ada_text.specs.Tokens.{tokens_in}

@@ -1,6 +1,6 @@
 //! What stands after a bracket.
 
-ghost use Rattle.std.specs.Prelude.{◌≡◌, ◌+◌, ◌<◌, ◌==◌, nat_lt, if◌then◌else◌, Some, None};
+ghost use Rattle.std.specs.Prelude.{◌≡◌, ◌<◌, ◌==◌, nat_lt, if◌then◌else◌, Some, None};
 ghost use Rattle.term_reader.specs.Trees.{wants, is_full, ends_in_number};
 ghost use Rattle.term_reader.specs.Operators.{build, with_index};
 ghost use Rattle.term_reader.specs.declared.part.Side.{Side};

@@ -1,7 +1,6 @@
 //! The words after a bracket.
 
 ghost use Rattle.std.specs.Prelude.{◌≡◌, ◌+◌, ◌<◌, ◌≤◌, ◌++◌, max, length, drop, IfOk, IfErr, MatchOption, slice_index_or};
-ghost use Rattle.term_reader.specs.Bytes.{first};
 ghost use Rattle.term_reader.specs.Trees.{gives, an_array};
 ghost use Rattle.term_reader.specs.Words.{builds, word, words, common_of, word_at, IsNoWord};
 ghost use Rattle.term_reader.specs.Operators.{build};

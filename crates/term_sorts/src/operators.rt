@@ -4,7 +4,7 @@
 //! alone.
 
 ghost use Rattle.std.specs.Prelude.{◌≡◌, ◌&&◌, ◌++◌, ◌∷◌, [], Some, IfOk, OnOk};
-ghost use Rattle.logic_terms.specs.Node.{bit, conj, disj, eq, fill, fld, fst, iff, ite, lst, neg, sel, sto, tru, upd};
+ghost use Rattle.logic_terms.specs.Node.{conj, disj, eq, fill, fld, fst, iff, ite, lst, sel, sto, tru, upd};
 ghost use Rattle.logic_terms.specs.Value.{numbers, records};
 ghost use Rattle.logic_terms.specs.Sorts.{sort};
 ghost use Rattle.logic_terms.specs.Sorting.{given, kind-upd, kindn, nth_kind, on1, on2, on3};

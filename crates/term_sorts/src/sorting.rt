@@ -9,7 +9,7 @@ ghost use Rattle.logic_terms.specs.Sorting.{node_kind, node_kinds, on1, on2, on3
 ghost use Rattle.logic_terms.specs.Goal.{problem};
 ghost use Rattle.logic_terms.specs.View.{term, formula, terms};
 ghost use Rattle.cert_rules.specs.Context.{is_some_numbers, is_some_truths, new_kinds, with_new};
-ghost use Rattle.term_sorts.specs.Found.{found, found_all, list_operator, numbers_if, signature, truths_if};
+ghost use Rattle.term_sorts.specs.Found.{found, list_operator, numbers_if, signature, truths_if};
 
 use crate::operators::{
     both, can_equate, is_array, is_num, is_truth, push_sort, sort_of_choice, sort_of_field,
@@ -17,7 +17,7 @@ use crate::operators::{
 };
 use crate::scope::{FoundSort, Scope, number_if, symbol_sort, truth_if, variable_sort};
 use logic_terms::{Formula, Goal, Sort, Starved, Term, TermList};
-use sqlite_items::{Boxed, Items};
+use sqlite_items::Items;
 use std::alloc::Global;
 
 /// Whether a term is a number.

@@ -15,7 +15,6 @@ use Rattle.ada_semantics.specs.Outcome.{pick}
 use Rattle.ada_semantics.specs.Store.{begin, whole, full_if, nth}
 use Rattle.ada_semantics.specs.Plain.{in_mode, first_of, rest_of, given_params, param_fits, params_fit, started}
 use Rattle.logic_terms.specs.Node as node
-use Rattle.logic_terms.specs.Node.{Node}
 use Rattle.logic_terms.specs.Value as logic
 use Rattle.logic_terms.specs.Value.{Kind, numbers}
 use Rattle.logic_terms.specs.Meaning.{World, holds}

@@ -5,7 +5,7 @@ use Rattle.ada_values.specs.declared.place.Place.{Place}
 use Rattle.typed_units.specs.declared.checks.CheckKind.TheVariants as check_kind
 use Rattle.typed_units.specs.declared.checks.SiteKey.{SiteKey}
 use Rattle.typed_units.specs.Syntax as text
-use Rattle.typed_units.specs.Syntax.{Ex, at, Nd, St, st, assert, Sts, done}
+use Rattle.typed_units.specs.Syntax.{at, Nd, st, assert, Sts, done}
 use Rattle.ada_semantics.specs.Outcome.{gives, fails, site, check}
 use Rattle.ada_semantics.specs.Store.{Frame}
 use Rattle.ada_semantics.specs.Operators.{truth_of}
@@ -13,7 +13,7 @@ use Rattle.ada_semantics.specs.Values.{Calls, value_of}
 use Rattle.ada_semantics.specs.Running.{Stop, goes, next, run_of, step_of}
 use Rattle.logic_terms.specs.Node.{Node}
 use Rattle.logic_terms.specs.Value as logic
-use Rattle.logic_terms.specs.Value.{Kind, numbers, no_kinds}
+use Rattle.logic_terms.specs.Value.{numbers}
 use Rattle.logic_terms.specs.Meaning.{World, holds}
 use Rattle.logic_terms.specs.Sorting.{Called, nth, HasKind, is_of, IsWorldOf, AllHold, IsValid}
 use Rattle.logic_terms.specs.Goals.{symbols_in, calls_in, all_symbols, all_calls, symbols_of_goal, calls_of_goal, place_in, numbered}

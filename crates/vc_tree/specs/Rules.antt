@@ -9,7 +9,7 @@ use Rattle.typed_units.specs.declared.operators.Relation.TheVariants as relation
 use Rattle.typed_units.specs.declared.checks.CheckKind.TheVariants as kind
 use Rattle.typed_units.specs.declared.programs.Mode.{Mode}
 use Rattle.typed_units.specs.declared.programs.Mode.TheVariants as mode
-use Rattle.typed_units.specs.Syntax.{Var, param, present, Op2, compare, Ex, at, Nd, static, read, op2, St, st, assert, Sts, done, Formal, Routine, Text}
+use Rattle.typed_units.specs.Syntax.{Var, param, present, compare, Ex, at, static, read, op2, st, assert, Sts, done, Formal, Routine, Text}
 use Rattle.typed_units.specs.Syntax as text
 use Rattle.ada_semantics.specs.Outcome.{site}
 use Rattle.logic_terms.specs.Node as node
