@@ -1,8 +1,8 @@
 //! Rows of small forms, worked out by hand.
 
-use form_prover::{Row, RowList, rows_of};
 use ada_values::{NameList, NameText, Place};
 use first_form::{Assertion, FirstForm, Operand, Placed, is_form};
+use form_prover::{Row, RowList, rows_of};
 use logic_terms::Starved;
 use sqlite_items::Items;
 use std::alloc::{AllocError, Global};

@@ -1,7 +1,7 @@
 //! Whole runs over a keeper and a sink in memory.
 
-use gnatprove_core::{Entry, ListSink, MapKeeper, Status, run_alone};
 use ada_values::{ByteList, NameText, WordList};
+use gnatprove_core::{Entry, ListSink, MapKeeper, Status, run_alone};
 use sqlite_items::Items;
 use std::alloc::{AllocError, Global};
 use std::process::Abort;

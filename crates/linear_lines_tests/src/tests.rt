@@ -1,8 +1,8 @@
 //! Linear clauses worked out by hand.
 
-use linear_lines::linear_line;
 use cert_lines::StepLine;
 use line_faults::LineFault;
+use linear_lines::linear_line;
 use logic_terms::{Formula, FormulaList, Goal, Role, Sort, Starved, Symbol, Term};
 use sqlite_items::{Boxed, Items};
 use std::alloc::Global;

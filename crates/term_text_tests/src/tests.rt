@@ -1,10 +1,10 @@
 //! Texts by hand, and their order.
 
-use term_text::{precedes, text_of};
 use logic_terms::{Formula, Starved, Term, TermList};
 use sqlite_items::{Boxed, Items};
 use std::alloc::Global;
 use std::test::Fail;
+use term_text::{precedes, text_of};
 
 type Made<T> = Result<Boxed<T>, Starved>;
 
