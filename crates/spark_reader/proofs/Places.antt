@@ -1,6 +1,7 @@
 -- Tokens and faults lie within their text.
 use Rattle.std.proofs.Common.{◌≡◌, ◌≤◌, ◌<◌, ◌+◌, ◌∙◌, ap, refl, ℕ, zero, suc, List, [], ◌∷◌, length, Option, Some, None, Result, Ok, Err, arith, Bool, true, false, length-drop}
 use Rattle.std.specs.Prelude.{slice_index, nat_eq, nat_lt, codes, if◌then◌else◌, drop, ◌&&◌, pos, ◌-◌, ◌^◌}
+use Rattle.std.specs.Char.{is_ascii_alphabetic, is_ascii_digit}
 use Rattle.std.specs.List.{starts_with}
 use Rattle.std.proofs.lemmas.Bool.{false≢true}
 use Rattle.ada_text.specs.declared.item.Item.{Item}
@@ -9,10 +10,10 @@ use Rattle.ada_text.specs.declared.token.Token.{Token}
 use Rattle.ada_text.specs.declared.token.LexFault.{LexFault}
 use Rattle.ada_text.specs.declared.token.LexFault.TheVariants.{BadByte, BadNumber, TooWide}
 use Rattle.ada_text.specs.declared.token.TokenKind.TheVariants.{Number}
-use Rattle.ada_text.specs.Bytes.{is_blank, skipped}
+use Rattle.ada_text.specs.Bytes.{comment_length, is_blank, skipped}
 use Rattle.ada_text.specs.Delimiters.{mark_at}
 use Rattle.ada_text.specs.Numbers.{literal_at, literal_value, number_at, number_with}
-use Rattle.ada_text.specs.Tokens.{AreInOrder, after_item, before, item_at, mark_or_fault, tokens_from, tokens_in, tokens_of}
+use Rattle.ada_text.specs.Tokens.{AreInOrder, after_item, before, gap, item_at, mark_or_fault, tokens_from, tokens_in, tokens_of, word_at}
 use Rattle.spark_reader.specs.Reads.{token_place, lex_place}
 
 -- a text has no more tokens than bytes
