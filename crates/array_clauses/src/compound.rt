@@ -9,8 +9,8 @@ ghost use Rattle.cert_rules.specs.Compound.{array_clause as array_clause_of, ext
 ghost use Rattle.line_faults.specs.Judges.{Judges, clause};
 
 use clause_build::{
-    clause_of_four, clause_of_one, clause_of_three, clause_of_two, equal, equals, first, item,
-    last, not_at_most, not_equal,
+    boxed, clause_of_four, clause_of_one, clause_of_three, clause_of_two, equal, equals, first,
+    item, last, not, not_at_most, not_equal,
 };
 use line_faults::LineFault;
 use logic_terms::{Formula, FormulaList, Sort, Starved, Term};
@@ -18,17 +18,17 @@ use sqlite_items::Boxed;
 use std::alloc::Global;
 
 /// `(not (<= (fst a) j))`.
-fn before_first(alloc: Global, a: &Term, j: &Term) -> Result<Formula, Starved>
+fn before_first(alloc: Global, a: &Term, j: &Term) -> Result<Boxed<Formula>, Starved>
     ensures { IfOk result (λ r. formula r ≡ op1 neg (op2 le (op1 fst (term a.now)) (term j.now))) }
 {
-    not_at_most(alloc, &first(alloc, a)?, j)
+    not_at_most(alloc, first(alloc, a)?, boxed(alloc, j)?)
 }
 
 /// `(not (<= j (lst a)))`.
-fn past_last(alloc: Global, a: &Term, j: &Term) -> Result<Formula, Starved>
+fn past_last(alloc: Global, a: &Term, j: &Term) -> Result<Boxed<Formula>, Starved>
     ensures { IfOk result (λ r. formula r ≡ op1 neg (op2 le (term j.now) (op1 lst (term a.now)))) }
 {
-    not_at_most(alloc, j, &last(alloc, a)?)
+    not_at_most(alloc, boxed(alloc, j)?, last(alloc, a)?)
 }
 
 /// What `t`, the item at `j` of an array `a` with `v` at `i`, is: `v`, where `i` and `j` are equal and within the bounds.
@@ -45,10 +45,10 @@ fn changed_item(
 {
     clause_of_four(
         alloc,
-        not_equal(alloc, i, j)?,
+        not_equal(alloc, boxed(alloc, i)?, boxed(alloc, j)?)?,
         before_first(alloc, a, j)?,
         past_last(alloc, a, j)?,
-        equals(alloc, of, t, v)?,
+        equals(alloc, of, boxed(alloc, t)?, boxed(alloc, v)?)?,
     )
 }
 
@@ -63,8 +63,9 @@ fn kept_item(
 ) -> Result<FormulaList, Starved>
     ensures { IfOk result (λ r. clause r ≡ op2 eq (term i.now) (term j.now) ∷ equals_at (sort of.now) (term t.now) (op2 sel (term a.now) (term j.now)) ∷ []) }
 {
-    let is = equals(alloc, of, t, &item(alloc, a, j)?)?;
-    clause_of_two(alloc, equal(alloc, i, j)?, is)
+    let kept = item(alloc, a, boxed(alloc, j)?)?;
+    let is = equals(alloc, of, boxed(alloc, t)?, kept)?;
+    clause_of_two(alloc, equal(alloc, boxed(alloc, i)?, boxed(alloc, j)?)?, is)
 }
 
 /// What `t`, the item at `j` of the array from `f` to `l` with `v` throughout, is: `v`, within the bounds.
@@ -81,9 +82,9 @@ fn filled_item(
 {
     clause_of_three(
         alloc,
-        not_at_most(alloc, f, j)?,
-        not_at_most(alloc, j, l)?,
-        equals(alloc, of, t, v)?,
+        not_at_most(alloc, boxed(alloc, f)?, boxed(alloc, j)?)?,
+        not_at_most(alloc, boxed(alloc, j)?, boxed(alloc, l)?)?,
+        equals(alloc, of, boxed(alloc, t)?, boxed(alloc, v)?)?,
     )
 }
 
@@ -115,10 +116,10 @@ fn item_clause(
 }
 
 /// That `t` is `u`.
-fn same_number(alloc: Global, t: &Term, u: &Term) -> Result<FormulaList, Starved>
-    ensures { IfOk result (λ r. clause r ≡ op2 eq (term t.now) (term u.now) ∷ []) }
+fn same_number(alloc: Global, t: &Term, u: Boxed<Term>) -> Result<FormulaList, Starved>
+    ensures { IfOk result (λ r. clause r ≡ op2 eq (term t.now) (term u) ∷ []) }
 {
-    clause_of_one(alloc, equal(alloc, t, u)?)
+    clause_of_one(alloc, equal(alloc, boxed(alloc, t)?, u)?)
 }
 
 /// What the first index `t` of `a` is, for a changed or a filled array.
@@ -134,11 +135,11 @@ fn first_clause(
 {
     match a {
         Term::Sto(b, _, _) => match part {
-            2 => Ok(same_number(alloc, t, &first(alloc, b.get())?)?),
+            2 => Ok(same_number(alloc, t, first(alloc, b.get())?)?),
             _ => Err(LineFault::NotAllowed),
         },
         Term::Fill(f, _, _) => match part {
-            5 => Ok(same_number(alloc, t, f.get())?),
+            5 => Ok(same_number(alloc, t, boxed(alloc, f.get())?)?),
             _ => Err(LineFault::NotAllowed),
         },
         _ => Err(LineFault::NotAllowed),
@@ -158,11 +159,11 @@ fn last_clause(
 {
     match a {
         Term::Sto(b, _, _) => match part {
-            3 => Ok(same_number(alloc, t, &last(alloc, b.get())?)?),
+            3 => Ok(same_number(alloc, t, last(alloc, b.get())?)?),
             _ => Err(LineFault::NotAllowed),
         },
         Term::Fill(_, l, _) => match part {
-            6 => Ok(same_number(alloc, t, l.get())?),
+            6 => Ok(same_number(alloc, t, boxed(alloc, l.get())?)?),
             _ => Err(LineFault::NotAllowed),
         },
         _ => Err(LineFault::NotAllowed),
@@ -183,48 +184,46 @@ pub fn array_clause(alloc: Global, of: &Sort, t: &Term, part: u32) -> Result<For
 }
 
 /// `(sel a b0)`.
-fn item_there(alloc: Global, a: &Term) -> Result<Term, Starved>
+fn item_there(alloc: Global, a: &Term) -> Result<Boxed<Term>, Starved>
     ensures { IfOk result (λ r. term r ≡ op2 sel (term a.now) (bound 0)) }
 {
-    item(alloc, a, &Term::Bound(0))
+    item(alloc, a, Boxed::new(alloc, Term::Bound(0))?)
 }
 
 /// `(= (sel a b0) (sel b b0))`, where the items are of this sort.
-fn items_same(alloc: Global, of: &Sort, a: &Term, b: &Term) -> Result<Formula, Starved>
+fn items_same(alloc: Global, of: &Sort, a: &Term, b: &Term) -> Result<Boxed<Formula>, Starved>
     ensures { IfOk result (λ r. formula r ≡ equals_at (sort of.now) (op2 sel (term a.now) (bound 0)) (op2 sel (term b.now) (bound 0))) }
 {
-    equals(alloc, of, &item_there(alloc, a)?, &item_there(alloc, b)?)
+    equals(alloc, of, item_there(alloc, a)?, item_there(alloc, b)?)
 }
 
 /// `(not (= (sel a b0) (sel b b0)))`, where the items are of this sort.
-fn items_differ(alloc: Global, of: &Sort, a: &Term, b: &Term) -> Result<Formula, Starved>
+fn items_differ(alloc: Global, of: &Sort, a: &Term, b: &Term) -> Result<Boxed<Formula>, Starved>
     ensures { IfOk result (λ r. formula r ≡ op1 neg (equals_at (sort of.now) (op2 sel (term a.now) (bound 0)) (op2 sel (term b.now) (bound 0)))) }
 {
-    Ok(Formula::Not(Boxed::new(alloc, items_same(alloc, of, a, b)?)?))
+    not(alloc, items_same(alloc, of, a, b)?)
 }
 
 /// `(any (fst a) (lst a) p)`.
-fn somewhere(alloc: Global, a: &Term, p: Formula) -> Result<Formula, Starved>
+fn somewhere(alloc: Global, a: &Term, p: Boxed<Formula>) -> Result<Boxed<Formula>, Starved>
     ensures { IfOk result (λ r. formula r ≡ quant any (op1 fst (term a.now)) (op1 lst (term a.now)) (formula p)) }
 {
-    let body = Boxed::new(alloc, p)?;
-    let from = Boxed::new(alloc, first(alloc, a)?)?;
-    let to = Boxed::new(alloc, last(alloc, a)?)?;
-    Ok(Formula::Any(from, to, body))
+    let from = first(alloc, a)?;
+    Ok(Boxed::new(alloc, Formula::Any(from, last(alloc, a)?, p))?)
 }
 
 /// `(not (= (fst a) (fst b)))`.
-fn firsts_differ(alloc: Global, a: &Term, b: &Term) -> Result<Formula, Starved>
+fn firsts_differ(alloc: Global, a: &Term, b: &Term) -> Result<Boxed<Formula>, Starved>
     ensures { IfOk result (λ r. formula r ≡ op1 neg (op2 eq (op1 fst (term a.now)) (op1 fst (term b.now)))) }
 {
-    not_equal(alloc, &first(alloc, a)?, &first(alloc, b)?)
+    not_equal(alloc, first(alloc, a)?, first(alloc, b)?)
 }
 
 /// `(not (= (lst a) (lst b)))`.
-fn lasts_differ(alloc: Global, a: &Term, b: &Term) -> Result<Formula, Starved>
+fn lasts_differ(alloc: Global, a: &Term, b: &Term) -> Result<Boxed<Formula>, Starved>
     ensures { IfOk result (λ r. formula r ≡ op1 neg (op2 eq (op1 lst (term a.now)) (op1 lst (term b.now)))) }
 {
-    not_equal(alloc, &last(alloc, a)?, &last(alloc, b)?)
+    not_equal(alloc, last(alloc, a)?, last(alloc, b)?)
 }
 
 /// That two arrays with items of this sort are equal where their bounds are and no item differs.
@@ -239,7 +238,7 @@ pub fn extensional(
     let differ = somewhere(alloc, a, items_differ(alloc, item_of, a, b)?)?;
     clause_of_four(
         alloc,
-        equal(alloc, a, b)?,
+        equal(alloc, boxed(alloc, a)?, boxed(alloc, b)?)?,
         firsts_differ(alloc, a, b)?,
         lasts_differ(alloc, a, b)?,
         differ,

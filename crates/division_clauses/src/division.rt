@@ -9,11 +9,12 @@ ghost use Rattle.cert_rules.specs.Division.{division_facts, is_positive, modulus
 ghost use Rattle.line_faults.specs.Judges.{Judges, clause};
 
 use clause_build::{
-    at_most, clause_of_one, clause_of_two, equal, modulus, not_at_most, product, quotient,
-    remainder, sum,
+    at_most, boxed, clause_of_one, clause_of_two, equal, modulus, not_at_most, number, product,
+    quotient, remainder, sum,
 };
 use line_faults::LineFault;
 use logic_terms::{Formula, FormulaList, Starved, Term};
+use sqlite_items::Boxed;
 use std::alloc::Global;
 
 /// The absolute value of `d`, less 1.
@@ -31,39 +32,47 @@ fn least_remainder(d: i128) -> i128
 }
 
 /// `(<= 0 a)`, or its negation.
-fn at_least_0(alloc: Global, a: &Term, holds: bool) -> Result<Formula, Starved>
+fn at_least_0(alloc: Global, a: &Term, holds: bool) -> Result<Boxed<Formula>, Starved>
     ensures { IfOk result (λ r. formula r ≡ (if holds then op2 le (num (pos 0)) (term a.now) else negated (op2 le (num (pos 0)) (term a.now)))) }
 {
     if holds {
-        at_most(alloc, &Term::Num(0), a)
+        at_most(alloc, number(alloc, 0)?, boxed(alloc, a)?)
     } else {
-        not_at_most(alloc, &Term::Num(0), a)
+        not_at_most(alloc, number(alloc, 0)?, boxed(alloc, a)?)
     }
 }
 
 /// `(* d (quo a d))`.
-fn whole_part(alloc: Global, a: &Term, d: i128) -> Result<Term, Starved>
+fn whole_part(alloc: Global, a: &Term, d: i128) -> Result<Boxed<Term>, Starved>
     ensures { IfOk result (λ r. term r ≡ op2 (arith mul) (num d) (quotient_of (term a.now) d)) }
 {
-    product(alloc, &Term::Num(d), &quotient(alloc, a, d)?)
+    product(alloc, number(alloc, d)?, quotient(alloc, a, d)?)
 }
 
 /// `(+ (* d (quo a d)) (rem a d))`.
-fn whole_and_rest(alloc: Global, a: &Term, d: i128) -> Result<Term, Starved>
+fn whole_and_rest(alloc: Global, a: &Term, d: i128) -> Result<Boxed<Term>, Starved>
     ensures { IfOk result (λ r. term r ≡ op2 (arith add) (op2 (arith mul) (num d) (quotient_of (term a.now) d)) (remainder_of (term a.now) d)) }
 {
-    sum(alloc, &whole_part(alloc, a, d)?, &remainder(alloc, a, d)?)
+    sum(alloc, whole_part(alloc, a, d)?, remainder(alloc, a, d)?)
 }
 
 /// `(= a (+ (* d (quo a d)) (rem a d)))`.
 fn parts_sum(alloc: Global, a: &Term, d: i128) -> Result<FormulaList, Starved>
     ensures { IfOk result (λ r. clause r ≡ op2 eq (term a.now) (op2 (arith add) (op2 (arith mul) (num d) (quotient_of (term a.now) d)) (remainder_of (term a.now) d)) ∷ []) }
 {
-    clause_of_one(alloc, equal(alloc, a, &whole_and_rest(alloc, a, d)?)?)
+    clause_of_one(
+        alloc,
+        equal(alloc, boxed(alloc, a)?, whole_and_rest(alloc, a, d)?)?,
+    )
 }
 
 /// A literal, unless `(<= 0 a)` is `unless`.
-fn bounded(alloc: Global, a: &Term, unless: bool, bound: Formula) -> Result<FormulaList, Starved>
+fn bounded(
+    alloc: Global,
+    a: &Term,
+    unless: bool,
+    bound: Boxed<Formula>,
+) -> Result<FormulaList, Starved>
     ensures { IfOk result (λ r. clause r ≡ (if unless then op2 le (num (pos 0)) (term a.now) else negated (op2 le (num (pos 0)) (term a.now))) ∷ formula bound ∷ []) }
 {
     clause_of_two(alloc, at_least_0(alloc, a, unless)?, bound)
@@ -79,8 +88,8 @@ fn remainder_from(
 ) -> Result<FormulaList, Starved>
     ensures { IfOk result (λ r. clause r ≡ (if unless then op2 le (num (pos 0)) (term a.now) else negated (op2 le (num (pos 0)) (term a.now))) ∷ op2 le (num n) (remainder_of (term a.now) d) ∷ []) }
 {
-    let rest = remainder(alloc, a, d)?;
-    bounded(alloc, a, unless, number_at_most(alloc, n, &rest)?)
+    let bound = at_most(alloc, number(alloc, n)?, remainder(alloc, a, d)?)?;
+    bounded(alloc, a, unless, bound)
 }
 
 /// `(<= (rem a d) n)`, unless `(<= 0 a)` is `unless`.
@@ -93,36 +102,22 @@ fn remainder_to(
 ) -> Result<FormulaList, Starved>
     ensures { IfOk result (λ r. clause r ≡ (if unless then op2 le (num (pos 0)) (term a.now) else negated (op2 le (num (pos 0)) (term a.now))) ∷ op2 le (remainder_of (term a.now) d) (num n) ∷ []) }
 {
-    let rest = remainder(alloc, a, d)?;
-    bounded(alloc, a, unless, at_most_number(alloc, &rest, n)?)
-}
-
-/// `(<= n t)`.
-fn number_at_most(alloc: Global, n: i128, t: &Term) -> Result<Formula, Starved>
-    ensures { IfOk result (λ r. formula r ≡ op2 le (num n) (term t.now)) }
-{
-    at_most(alloc, &Term::Num(n), t)
-}
-
-/// `(<= t n)`.
-fn at_most_number(alloc: Global, t: &Term, n: i128) -> Result<Formula, Starved>
-    ensures { IfOk result (λ r. formula r ≡ op2 le (term t.now) (num n)) }
-{
-    at_most(alloc, t, &Term::Num(n))
+    let bound = at_most(alloc, remainder(alloc, a, d)?, number(alloc, n)?)?;
+    bounded(alloc, a, unless, bound)
 }
 
 /// `(<= n m)`, alone.
-fn from_number(alloc: Global, m: &Term, n: i128) -> Result<FormulaList, Starved>
-    ensures { IfOk result (λ r. clause r ≡ op2 le (num n) (term m.now) ∷ []) }
+fn from_number(alloc: Global, m: Boxed<Term>, n: i128) -> Result<FormulaList, Starved>
+    ensures { IfOk result (λ r. clause r ≡ op2 le (num n) (term m) ∷ []) }
 {
-    clause_of_one(alloc, at_most(alloc, &Term::Num(n), m)?)
+    clause_of_one(alloc, at_most(alloc, number(alloc, n)?, m)?)
 }
 
 /// `(<= m n)`, alone.
-fn to_number(alloc: Global, m: &Term, n: i128) -> Result<FormulaList, Starved>
-    ensures { IfOk result (λ r. clause r ≡ op2 le (term m.now) (num n) ∷ []) }
+fn to_number(alloc: Global, m: Boxed<Term>, n: i128) -> Result<FormulaList, Starved>
+    ensures { IfOk result (λ r. clause r ≡ op2 le (term m) (num n) ∷ []) }
 {
-    clause_of_one(alloc, at_most(alloc, m, &Term::Num(n))?)
+    clause_of_one(alloc, at_most(alloc, m, number(alloc, n)?)?)
 }
 
 /// The sign of `(mod a d)`, which is that of `d`.
@@ -131,9 +126,9 @@ fn modulus_sign(alloc: Global, a: &Term, d: i128) -> Result<FormulaList, Starved
 {
     let m = modulus(alloc, a, d)?;
     if d > 0 {
-        from_number(alloc, &m, 0)
+        from_number(alloc, m, 0)
     } else {
-        to_number(alloc, &m, 0)
+        to_number(alloc, m, 0)
     }
 }
 
@@ -143,34 +138,34 @@ fn modulus_bound(alloc: Global, a: &Term, d: i128) -> Result<FormulaList, Starve
 {
     let m = modulus(alloc, a, d)?;
     if d > 0 {
-        to_number(alloc, &m, d - 1)
+        to_number(alloc, m, d - 1)
     } else {
-        from_number(alloc, &m, d + 1)
+        from_number(alloc, m, d + 1)
     }
 }
 
 /// `(+ (rem a d) d)`.
-fn remainder_and_divisor(alloc: Global, a: &Term, d: i128) -> Result<Term, Starved>
+fn remainder_and_divisor(alloc: Global, a: &Term, d: i128) -> Result<Boxed<Term>, Starved>
     ensures { IfOk result (λ r. term r ≡ op2 (arith add) (remainder_of (term a.now) d) (num d)) }
 {
-    sum(alloc, &remainder(alloc, a, d)?, &Term::Num(d))
+    sum(alloc, remainder(alloc, a, d)?, number(alloc, d)?)
 }
 
 /// `(= (mod a d) (rem a d))`.
-fn modulus_is_remainder(alloc: Global, a: &Term, d: i128) -> Result<Formula, Starved>
+fn modulus_is_remainder(alloc: Global, a: &Term, d: i128) -> Result<Boxed<Formula>, Starved>
     ensures { IfOk result (λ r. formula r ≡ op2 eq (modulus_of (term a.now) d) (remainder_of (term a.now) d)) }
 {
-    equal(alloc, &modulus(alloc, a, d)?, &remainder(alloc, a, d)?)
+    equal(alloc, modulus(alloc, a, d)?, remainder(alloc, a, d)?)
 }
 
 /// `(= (mod a d) (+ (rem a d) d))`.
-fn modulus_is_more(alloc: Global, a: &Term, d: i128) -> Result<Formula, Starved>
+fn modulus_is_more(alloc: Global, a: &Term, d: i128) -> Result<Boxed<Formula>, Starved>
     ensures { IfOk result (λ r. formula r ≡ op2 eq (modulus_of (term a.now) d) (op2 (arith add) (remainder_of (term a.now) d) (num d))) }
 {
     equal(
         alloc,
-        &modulus(alloc, a, d)?,
-        &remainder_and_divisor(alloc, a, d)?,
+        modulus(alloc, a, d)?,
+        remainder_and_divisor(alloc, a, d)?,
     )
 }
 

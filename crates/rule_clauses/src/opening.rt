@@ -12,11 +12,12 @@ ghost use Rattle.line_faults.specs.Judges.{Judges, clause};
 ghost use Rattle.clause_build.specs.Literal.{literal as literal_of};
 
 use clause_build::{
-    at_most, clause_of_one, clause_of_three, clause_of_two, equal, equals, literal, not_at_most,
-    product, sum,
+    at_most, boxed, clause_of_one, clause_of_three, clause_of_two, equal, equals, literal,
+    not_at_most, number, product, sum,
 };
 use line_faults::LineFault;
 use logic_terms::{Formula, FormulaList, Goal, Sort, Starved, Term};
+use sqlite_items::Boxed;
 use std::alloc::Global;
 
 /// The clause of one literal.
@@ -178,7 +179,8 @@ fn side(
 ) -> Result<FormulaList, Starved>
     ensures { IfOk result (λ r. clause r ≡ literal_of c_holds (formula c.now) ∷ equals_at (sort of.now) (term t.now) (term a.now) ∷ []) }
 {
-    clause_of_two(alloc, literal(alloc, c, c_holds)?, equals(alloc, of, t, a)?)
+    let is = equals(alloc, of, boxed(alloc, t)?, boxed(alloc, a)?)?;
+    clause_of_two(alloc, literal(alloc, c, c_holds)?, is)
 }
 
 /// What a choice of this sort is on its side 0 or 1. `NotAllowed` at another term or side.
@@ -197,10 +199,11 @@ pub fn sides(alloc: Global, of: &Sort, t: &Term, side_at: u32) -> Result<Formula
 }
 
 /// `(<= (+ a 1) b)`.
-fn less(alloc: Global, a: &Term, b: &Term) -> Result<Formula, Starved>
+fn less(alloc: Global, a: &Term, b: &Term) -> Result<Boxed<Formula>, Starved>
     ensures { IfOk result (λ r. formula r ≡ op2 le (one_more (term a.now)) (term b.now)) }
 {
-    at_most(alloc, &sum(alloc, a, &Term::Num(1))?, b)
+    let more = sum(alloc, boxed(alloc, a)?, number(alloc, 1)?)?;
+    at_most(alloc, more, boxed(alloc, b)?)
 }
 
 /// Of two numbers, that they are equal or one is less.
@@ -209,24 +212,25 @@ pub fn compared(alloc: Global, a: &Term, b: &Term) -> Result<FormulaList, Starve
 {
     clause_of_three(
         alloc,
-        equal(alloc, a, b)?,
+        equal(alloc, boxed(alloc, a)?, boxed(alloc, b)?)?,
         less(alloc, a, b)?,
         less(alloc, b, a)?,
     )
 }
 
 /// `(not (<= 0 t))`.
-fn below_0(alloc: Global, t: &Term) -> Result<Formula, Starved>
+fn below_0(alloc: Global, t: &Term) -> Result<Boxed<Formula>, Starved>
     ensures { IfOk result (λ r. formula r ≡ op1 neg (at_least_0 (term t.now))) }
 {
-    not_at_most(alloc, &Term::Num(0), t)
+    not_at_most(alloc, number(alloc, 0)?, boxed(alloc, t)?)
 }
 
 /// `(<= 0 (* f g))`.
-fn product_at_least_0(alloc: Global, f: &Term, g: &Term) -> Result<Formula, Starved>
+fn product_at_least_0(alloc: Global, f: &Term, g: &Term) -> Result<Boxed<Formula>, Starved>
     ensures { IfOk result (λ r. formula r ≡ at_least_0 (op2 (arith mul) (term f.now) (term g.now))) }
 {
-    at_most(alloc, &Term::Num(0), &product(alloc, f, g)?)
+    let both = product(alloc, boxed(alloc, f)?, boxed(alloc, g)?)?;
+    at_most(alloc, number(alloc, 0)?, both)
 }
 
 /// Of two numbers that are at least 0, that their product is.

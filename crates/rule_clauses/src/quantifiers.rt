@@ -7,10 +7,21 @@ ghost use Rattle.logic_terms.specs.View.{formula, term};
 ghost use Rattle.cert_rules.specs.Quantifiers.{bounded as bounded_by, instance_of as instance_by, witness_of as witness_by};
 ghost use Rattle.line_faults.specs.Judges.{Judges, clause};
 
-use clause_build::{at_most, both, clause_of_four, clause_of_two, not_at_most};
+use clause_build::{
+    at_most, both, boxed, boxed_formula, clause_of_four, clause_of_two, negation, not_at_most,
+    symbol,
+};
 use line_faults::LineFault;
-use logic_terms::{Formula, FormulaList, Starved, Term, negate, put_in};
+use logic_terms::{Formula, FormulaList, Starved, Term, put_in};
+use sqlite_items::Boxed;
 use std::alloc::Global;
+
+/// `p` at the symbol or term `t`.
+fn body_at(alloc: Global, p: &Formula, t: &Term) -> Result<Boxed<Formula>, Starved>
+    ensures { IfOk result (λ r. formula r ≡ put (term t.now) 0 (formula p.now)) }
+{
+    Ok(Boxed::new(alloc, put_in(alloc, p, t)?)?)
+}
 
 /// What `q`, which says `p` of all numbers from `l` to `h`, says of `t`.
 fn instance_of_all(
@@ -25,18 +36,18 @@ fn instance_of_all(
 {
     clause_of_four(
         alloc,
-        negate(alloc, q)?,
-        not_at_most(alloc, l, t)?,
-        not_at_most(alloc, t, h)?,
-        put_in(alloc, p, t)?,
+        negation(alloc, q)?,
+        not_at_most(alloc, boxed(alloc, l)?, boxed(alloc, t)?)?,
+        not_at_most(alloc, boxed(alloc, t)?, boxed(alloc, h)?)?,
+        body_at(alloc, p, t)?,
     )
 }
 
 /// `(not p)`, or `p` without its `not`, at the symbol or term `t`.
-fn negated_at(alloc: Global, p: &Formula, t: &Term) -> Result<Formula, Starved>
+fn negated_at(alloc: Global, p: &Formula, t: &Term) -> Result<Boxed<Formula>, Starved>
     ensures { IfOk result (λ r. formula r ≡ negated (put (term t.now) 0 (formula p.now))) }
 {
-    negate(alloc, &put_in(alloc, p, t)?)
+    negation(alloc, body_at(alloc, p, t)?.get())
 }
 
 /// What `q`, which says `p` of some number from `l` to `h`, says of `t`.
@@ -52,9 +63,9 @@ fn instance_of_any(
 {
     clause_of_four(
         alloc,
-        q.copy(alloc)?,
-        not_at_most(alloc, l, t)?,
-        not_at_most(alloc, t, h)?,
+        boxed_formula(alloc, q)?,
+        not_at_most(alloc, boxed(alloc, l)?, boxed(alloc, t)?)?,
+        not_at_most(alloc, boxed(alloc, t)?, boxed(alloc, h)?)?,
         negated_at(alloc, p, t)?,
     )
 }
@@ -71,11 +82,22 @@ pub fn instance_of(alloc: Global, t: &Term, q: &Formula) -> Result<FormulaList, 
 }
 
 /// `(and (<= l s) (and (<= s h) p))`.
-fn bounded(alloc: Global, l: &Term, s: &Term, h: &Term, p: Formula) -> Result<Formula, Starved>
+fn bounded(
+    alloc: Global,
+    l: &Term,
+    s: &Term,
+    h: &Term,
+    p: Boxed<Formula>,
+) -> Result<Boxed<Formula>, Starved>
     ensures { IfOk result (λ r. formula r ≡ bounded_by (term l.now) (term s.now) (term h.now) (formula p)) }
 {
-    let rest = both(alloc, at_most(alloc, s, h)?, p)?;
-    both(alloc, at_most(alloc, l, s)?, rest)
+    let below = at_most(alloc, boxed(alloc, s)?, boxed(alloc, h)?)?;
+    let rest = both(alloc, below, p)?;
+    both(
+        alloc,
+        at_most(alloc, boxed(alloc, l)?, boxed(alloc, s)?)?,
+        rest,
+    )
 }
 
 /// What `q`, which says `p` of some number from `l` to `h`, says of one that `s` stands for.
@@ -89,8 +111,8 @@ fn witness_of_any(
 ) -> Result<FormulaList, Starved>
     ensures { IfOk result (λ r. clause r ≡ negated (formula q.now) ∷ bounded_by (term l.now) (term s.now) (term h.now) (put (term s.now) 0 (formula p.now)) ∷ []) }
 {
-    let there = bounded(alloc, l, s, h, put_in(alloc, p, s)?)?;
-    clause_of_two(alloc, negate(alloc, q)?, there)
+    let there = bounded(alloc, l, s, h, body_at(alloc, p, s)?)?;
+    clause_of_two(alloc, negation(alloc, q)?, there)
 }
 
 /// What `q`, which says `p` of all numbers from `l` to `h`, says of one that `s` stands for and `p` is false of.
@@ -105,7 +127,7 @@ fn witness_of_all(
     ensures { IfOk result (λ r. clause r ≡ formula q.now ∷ bounded_by (term l.now) (term s.now) (term h.now) (negated (put (term s.now) 0 (formula p.now))) ∷ []) }
 {
     let there = bounded(alloc, l, s, h, negated_at(alloc, p, s)?)?;
-    clause_of_two(alloc, q.copy(alloc)?, there)
+    clause_of_two(alloc, boxed_formula(alloc, q)?, there)
 }
 
 /// What a quantifier says of its body, or of the negated body, at the symbol `s` with the number `k`.
@@ -125,5 +147,5 @@ fn witness_at(alloc: Global, k: u32, s: &Term, q: &Formula) -> Result<FormulaLis
 pub fn witness_of(alloc: Global, k: u32, q: &Formula) -> Result<FormulaList, LineFault>
     ensures { Judges clause (witness_by k (formula q.now)) result }
 {
-    witness_at(alloc, k, &Term::Sym(k), q)
+    witness_at(alloc, k, symbol(alloc, k)?.get(), q)
 }

@@ -8,10 +8,10 @@ ghost use Rattle.cert_rules.specs.Clause.{equals as equals_at};
 ghost use Rattle.cert_rules.specs.Compound.{equal_to, field_clause as field_clause_of, field_of, fields_from, node_at, updated_field, whole_record as whole_record_of};
 ghost use Rattle.line_faults.specs.Judges.{Judges, clause};
 
-use clause_build::{clause_of_one, equal, equals, field};
+use clause_build::{boxed, clause_of_one, equal, equals, field, record};
 use line_faults::LineFault;
 use logic_terms::{FormulaList, Sort, SortList, Starved, Term, TermList};
-use sqlite_items::{Items, at};
+use sqlite_items::{Boxed, Items, at};
 use std::alloc::Global;
 
 /// The fields of `t`, of which there are as many as sorts.
@@ -22,7 +22,7 @@ fn fields_of(alloc: Global, sorts: &SortList, t: &Term) -> Result<TermList, Star
     let mut made = Items::new(alloc);
     for i in 0..sorts.len() {
         match u32::try_from(i) {
-            Ok(k) => made.push(field(alloc, k, t)?)?,
+            Ok(k) => made.push(field(alloc, k, t)?.into_inner())?,
             Err(_) => return Err(Starved),
         }
     }
@@ -35,18 +35,18 @@ fn whole_record(alloc: Global, of: &Sort, t: &Term) -> Result<FormulaList, LineF
 {
     match of {
         Sort::Record(sorts) => {
-            let whole = Term::Rec(fields_of(alloc, sorts, t)?);
-            Ok(clause_of_one(alloc, equal(alloc, t, &whole)?)?)
+            let whole = record(alloc, fields_of(alloc, sorts, t)?)?;
+            Ok(clause_of_one(alloc, equal(alloc, boxed(alloc, t)?, whole)?)?)
         }
         _ => Err(LineFault::NotAllowed),
     }
 }
 
 /// That `t`, which is of this sort, is `u`.
-fn same_value(alloc: Global, of: &Sort, t: &Term, u: &Term) -> Result<FormulaList, Starved>
-    ensures { IfOk result (λ r. clause r ≡ equals_at (sort of.now) (term t.now) (term u.now) ∷ []) }
+fn same_value(alloc: Global, of: &Sort, t: &Term, u: Boxed<Term>) -> Result<FormulaList, Starved>
+    ensures { IfOk result (λ r. clause r ≡ equals_at (sort of.now) (term t.now) (term u) ∷ []) }
 {
-    clause_of_one(alloc, equals(alloc, of, t, u)?)
+    clause_of_one(alloc, equals(alloc, of, boxed(alloc, t)?, u)?)
 }
 
 /// What `t`, field `k` of a record of these fields, is.
@@ -61,7 +61,7 @@ fn made_field(
     ensures { Judges clause (equal_to (sort of.now) (term t.now) (node_at (terms ts.now) k)) result }
 {
     match at(ts.as_slice(), k as usize) {
-        Some(u) => Ok(same_value(alloc, of, t, u)?),
+        Some(u) => Ok(same_value(alloc, of, t, boxed(alloc, u)?)?),
         None => Err(LineFault::NotAllowed),
     }
 }
@@ -81,12 +81,12 @@ fn changed_field(
 {
     if j == k {
         match part {
-            1 => Ok(same_value(alloc, of, t, v)?),
+            1 => Ok(same_value(alloc, of, t, boxed(alloc, v)?)?),
             _ => Err(LineFault::NotAllowed),
         }
     } else {
         match part {
-            2 => Ok(same_value(alloc, of, t, &field(alloc, j, r)?)?),
+            2 => Ok(same_value(alloc, of, t, field(alloc, j, r)?)?),
             _ => Err(LineFault::NotAllowed),
         }
     }

@@ -8,9 +8,10 @@ ghost use Rattle.cert_rules.specs.Replacing.{directed, replaced, replacement as 
 ghost use Rattle.line_faults.specs.Judges.{Judges, clause};
 
 use crate::swapping::replace_in;
-use clause_build::clause_of_three;
+use clause_build::{clause_of_three, negation};
 use line_faults::LineFault;
-use logic_terms::{Formula, FormulaList, Starved, Term, negate};
+use logic_terms::{Formula, FormulaList, Starved, Term};
+use sqlite_items::Boxed;
 use std::alloc::Global;
 
 /// That the literal follows in its changed form where the equation holds.
@@ -18,14 +19,14 @@ fn changed_clause(
     alloc: Global,
     equation: &Formula,
     literal: &Formula,
-    changed: Formula,
+    changed: Boxed<Formula>,
 ) -> Result<FormulaList, Starved>
     ensures { IfOk result (λ r. clause r ≡ negated (formula equation.now) ∷ negated (formula literal.now) ∷ formula changed ∷ []) }
 {
     clause_of_three(
         alloc,
-        negate(alloc, equation)?,
-        negate(alloc, literal)?,
+        negation(alloc, equation)?,
+        negation(alloc, literal)?,
         changed,
     )
 }

@@ -314,11 +314,12 @@ pub fn replace_in(
     to: &Term,
     p: &Formula,
     occurrence: u32,
-) -> Result<Option<Formula>, Starved>
+) -> Result<Option<Boxed<Formula>>, Starved>
     ensures { IfOk result (λ r. Replaces r (replaced (term from.now) (term to.now) (formula p.now) occurrence)) }
 {
     let mut left = Some(occurrence);
     let changed = swap_formula(alloc, &Change { from, to }, p, &mut left)?;
+    let changed = Boxed::new(alloc, changed)?;
     match left {
         None => Ok(Some(changed)),
         Some(_) => Ok(None),
