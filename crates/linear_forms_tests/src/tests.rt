@@ -7,18 +7,29 @@ use std::alloc::Global;
 use std::test::Fail;
 use term_text::text_of;
 
-type Made = Result<Term, Starved>;
+type Made = Result<Boxed<Term>, Starved>;
 
-fn add(alloc: Global, a: Term, b: Term) -> Made {
-    Ok(Term::Add(Boxed::new(alloc, a)?, Boxed::new(alloc, b)?))
+fn num(alloc: Global, n: i128) -> Made {
+    Ok(Boxed::new(alloc, Term::Num(n))?)
 }
 
-fn sub(alloc: Global, a: Term, b: Term) -> Made {
-    Ok(Term::Sub(Boxed::new(alloc, a)?, Boxed::new(alloc, b)?))
+fn sym(alloc: Global, k: u32) -> Made {
+    Ok(Boxed::new(alloc, Term::Sym(k))?)
 }
 
-fn mul(alloc: Global, a: Term, b: Term) -> Made {
-    Ok(Term::Mul(Boxed::new(alloc, a)?, Boxed::new(alloc, b)?))
+fn add(alloc: Global, a: Made, b: Made) -> Made {
+    let a = a?;
+    Ok(Boxed::new(alloc, Term::Add(a, b?))?)
+}
+
+fn sub(alloc: Global, a: Made, b: Made) -> Made {
+    let a = a?;
+    Ok(Boxed::new(alloc, Term::Sub(a, b?))?)
+}
+
+fn mul(alloc: Global, a: Made, b: Made) -> Made {
+    let a = a?;
+    Ok(Boxed::new(alloc, Term::Mul(a, b?))?)
 }
 
 /// Whether a part is this coefficient times the variable of this text.
@@ -48,7 +59,7 @@ fn forms(alloc: Global, made: Made, constant: i128, want: &[(i128, &[u8])]) -> b
     let Ok(t) = made else {
         return false;
     };
-    match form_of(alloc, &t) {
+    match form_of(alloc, t.get()) {
         Ok(f) => shows(alloc, &f, constant, want),
         Err(_) => false,
     }
@@ -59,7 +70,7 @@ fn is_wide(alloc: Global, made: Made) -> bool {
     let Ok(t) = made else {
         return false;
     };
-    match form_of(alloc, &t) {
+    match form_of(alloc, t.get()) {
         Ok(_) => false,
         Err(fault) => fault == FormFault::Wide,
     }
@@ -67,34 +78,32 @@ fn is_wide(alloc: Global, made: Made) -> bool {
 
 /// `(- (* 3 s0) (+ s0 5))`
 fn difference(alloc: Global) -> Made {
-    let tripled = mul(alloc, Term::Num(3), Term::Sym(0))?;
-    let more = add(alloc, Term::Sym(0), Term::Num(5))?;
-    sub(alloc, tripled, more)
+    let tripled = mul(alloc, num(alloc, 3), sym(alloc, 0));
+    sub(alloc, tripled, add(alloc, sym(alloc, 0), num(alloc, 5)))
 }
 
 /// `(* (+ s0 1) (- s0 1))`
 fn product_of_sums(alloc: Global) -> Made {
-    let above = add(alloc, Term::Sym(0), Term::Num(1))?;
-    let below = sub(alloc, Term::Sym(0), Term::Num(1))?;
-    mul(alloc, above, below)
+    let above = add(alloc, sym(alloc, 0), num(alloc, 1));
+    mul(alloc, above, sub(alloc, sym(alloc, 0), num(alloc, 1)))
 }
 
 /// `(* (mod s0 2) -4)`
 fn scaled_modulus(alloc: Global) -> Made {
-    let s0 = Boxed::new(alloc, Term::Sym(0))?;
-    let rest = Term::Mod(s0, Boxed::new(alloc, Term::Num(2))?);
-    mul(alloc, rest, Term::Num(-4))
+    let s0 = sym(alloc, 0)?;
+    let rest = Boxed::new(alloc, Term::Mod(s0, num(alloc, 2)?))?;
+    mul(alloc, Ok(rest), num(alloc, -4))
 }
 
 #[test]
 fn sums_are_gathered(rt: HostRuntime) {
     let alloc = rt.alloc();
     assert!(rt; forms(alloc, difference(alloc), -5, &[(2, b"s0")]));
-    assert!(rt; forms(alloc, sub(alloc, Term::Sym(7), Term::Sym(7)), 0, &[]));
+    assert!(rt; forms(alloc, sub(alloc, sym(alloc, 7), sym(alloc, 7)), 0, &[]));
     assert!(rt;
         forms(
             alloc,
-            add(alloc, Term::Sym(2), Term::Sym(10)),
+            add(alloc, sym(alloc, 2), sym(alloc, 10)),
             0,
             &[(1, b"s10"), (1, b"s2")]
         )
@@ -108,7 +117,7 @@ fn products_are_multiplied_out(rt: HostRuntime) {
     assert!(rt;
         forms(
             alloc,
-            mul(alloc, Term::Sym(1), Term::Sym(0)),
+            mul(alloc, sym(alloc, 1), sym(alloc, 0)),
             0,
             &[(1, b"(* s0 s1)")]
         )
@@ -122,8 +131,11 @@ const LEAST: i128 = -170_141_183_460_469_231_731_687_303_715_884_105_728;
 
 /// `(- 0 (* n s0))`
 fn negated_multiple(alloc: Global, n: i128) -> Made {
-    let multiple = mul(alloc, Term::Num(n), Term::Sym(0))?;
-    sub(alloc, Term::Num(0), multiple)
+    sub(
+        alloc,
+        num(alloc, 0),
+        mul(alloc, num(alloc, n), sym(alloc, 0)),
+    )
 }
 
 #[test]
@@ -132,16 +144,16 @@ fn numbers_at_the_edges(rt: HostRuntime) {
     assert!(rt;
         forms(
             alloc,
-            add(alloc, Term::Num(GREATEST), Term::Num(0)),
+            add(alloc, num(alloc, GREATEST), num(alloc, 0)),
             GREATEST,
             &[]
         )
     );
-    assert!(rt; is_wide(alloc, add(alloc, Term::Num(GREATEST), Term::Num(1))));
+    assert!(rt; is_wide(alloc, add(alloc, num(alloc, GREATEST), num(alloc, 1))));
     assert!(rt;
         forms(
             alloc,
-            mul(alloc, Term::Num(LEAST), Term::Sym(0)),
+            mul(alloc, num(alloc, LEAST), sym(alloc, 0)),
             0,
             &[(LEAST, b"s0")]
         )
