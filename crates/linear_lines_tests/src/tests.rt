@@ -7,62 +7,78 @@ use logic_terms::{Formula, FormulaList, Goal, Role, Sort, Starved, Symbol, Term}
 use sqlite_items::{Boxed, Items};
 use std::alloc::Global;
 
+type Made<T> = Result<Boxed<T>, Starved>;
+
+fn num(alloc: Global, n: i128) -> Made<Term> {
+    Ok(Boxed::new(alloc, Term::Num(n))?)
+}
+
 /// `(<= a b)`, negated as often as this.
-fn at_most(alloc: Global, nots: u32, a: Term, b: Term) -> Result<Formula, Starved> {
-    let mut p = Formula::Le(Boxed::new(alloc, a)?, Boxed::new(alloc, b)?);
+fn at_most(alloc: Global, nots: u32, a: Boxed<Term>, b: Boxed<Term>) -> Made<Formula> {
+    let mut p = Boxed::new(alloc, Formula::Le(a, b))?;
     for _ in 0..nots {
-        p = Formula::Not(Boxed::new(alloc, p)?);
+        p = Boxed::new(alloc, Formula::Not(p))?;
     }
     Ok(p)
 }
 
+/// `s0`
+fn variable(alloc: Global) -> Made<Term> {
+    Ok(Boxed::new(alloc, Term::Sym(0))?)
+}
+
 /// `(* n s0)`
-fn times(alloc: Global, n: i128) -> Result<Term, Starved> {
-    let n = Boxed::new(alloc, Term::Num(n))?;
-    Ok(Term::Mul(n, Boxed::new(alloc, Term::Sym(0))?))
+fn times(alloc: Global, n: i128) -> Made<Term> {
+    let n = num(alloc, n)?;
+    Ok(Boxed::new(alloc, Term::Mul(n, variable(alloc)?))?)
 }
 
 /// That n s0 is not at least m, or not at most m.
 fn bounds(alloc: Global, n: i128, m: i128) -> Result<FormulaList, Starved> {
     let mut literals = Items::new(alloc);
-    literals.push(at_most(alloc, 1, Term::Num(m), times(alloc, n)?)?)?;
-    literals.push(at_most(alloc, 1, times(alloc, n)?, Term::Num(m))?)?;
+    let below = at_most(alloc, 1, num(alloc, m)?, times(alloc, n)?)?;
+    literals.push(below.into_inner())?;
+    let above = at_most(alloc, 1, times(alloc, n)?, num(alloc, m)?)?;
+    literals.push(above.into_inner())?;
     Ok(literals)
 }
 
-/// `(<= a b)` alone, negated as often as this.
-fn alone(alloc: Global, nots: u32, a: Term, b: Term) -> Result<FormulaList, Starved> {
+/// `(<= a 0)` alone, negated as often as this.
+fn alone(alloc: Global, nots: u32, a: i128) -> Result<FormulaList, Starved> {
     let mut literals = Items::new(alloc);
-    literals.push(at_most(alloc, nots, a, b)?)?;
+    let order = at_most(alloc, nots, num(alloc, a)?, num(alloc, 0)?)?;
+    literals.push(order.into_inner())?;
     Ok(literals)
 }
 
 /// `(= s0 0)`, or its negation.
 fn equation(alloc: Global, negated: bool) -> Result<FormulaList, Starved> {
-    let s0 = Boxed::new(alloc, Term::Sym(0))?;
-    let p = Formula::Eq(s0, Boxed::new(alloc, Term::Num(0))?);
+    let s0 = variable(alloc)?;
+    let p = Boxed::new(alloc, Formula::Eq(s0, num(alloc, 0)?))?;
     let mut literals = Items::new(alloc);
     if negated {
-        literals.push(Formula::Not(Boxed::new(alloc, p)?))?;
+        literals.push(Formula::Not(p))?;
     } else {
-        literals.push(p)?;
+        literals.push(p.into_inner())?;
     }
-    literals.push(at_most(alloc, 1, Term::Num(1), Term::Sym(0))?)?;
+    let above = at_most(alloc, 1, num(alloc, 1)?, variable(alloc)?)?;
+    literals.push(above.into_inner())?;
     Ok(literals)
 }
 
-fn goal(alloc: Global) -> Result<Goal, Starved> {
+fn goal(alloc: Global) -> Made<Goal> {
     let mut symbols = Items::new(alloc);
     symbols.push(Symbol {
         sort: Sort::Num,
         role: Role::Plain,
     })?;
-    Ok(Goal {
+    let goal = Goal {
         symbols,
         calls: Items::new(alloc),
         hypotheses: Items::new(alloc),
         conclusion: Formula::True,
-    })
+    };
+    Ok(Boxed::new(alloc, goal)?)
 }
 
 type Literals = Result<FormulaList, Starved>;
@@ -70,7 +86,8 @@ type Literals = Result<FormulaList, Starved>;
 fn answer(alloc: Global, literals: Literals, steps: &[StepLine]) -> Result<(), LineFault> {
     let goal = goal(alloc)?;
     let steps = Items::from_slice(alloc, steps)?;
-    linear_line(alloc, &goal, 0, &literals?, &steps)
+    let literals = literals?;
+    linear_line(alloc, goal.get(), 0, &literals, &steps)
 }
 
 /// Form I plus K times form J.
@@ -116,26 +133,11 @@ fn bounds_of_one_number(rt: HostRuntime) {
 #[test]
 fn literals(rt: HostRuntime) {
     let alloc = rt.alloc();
-    assert_eq!(rt;
-        answer(alloc, alone(alloc, 0, Term::Num(0), Term::Num(0)), &[]),
-        Ok(())
-    );
-    assert_eq!(rt;
-        answer(alloc, alone(alloc, 0, Term::Num(1), Term::Num(0)), &[]),
-        NOT_ALLOWED
-    );
-    assert_eq!(rt;
-        answer(alloc, alone(alloc, 1, Term::Num(1), Term::Num(0)), &[]),
-        Ok(())
-    );
-    assert_eq!(rt;
-        answer(alloc, alone(alloc, 2, Term::Num(0), Term::Num(0)), &[]),
-        Ok(())
-    );
-    assert_eq!(rt;
-        answer(alloc, alone(alloc, 3, Term::Num(1), Term::Num(0)), &[]),
-        NOT_ALLOWED
-    );
+    assert_eq!(rt; answer(alloc, alone(alloc, 0, 0), &[]), Ok(()));
+    assert_eq!(rt; answer(alloc, alone(alloc, 0, 1), &[]), NOT_ALLOWED);
+    assert_eq!(rt; answer(alloc, alone(alloc, 1, 1), &[]), Ok(()));
+    assert_eq!(rt; answer(alloc, alone(alloc, 2, 0), &[]), Ok(()));
+    assert_eq!(rt; answer(alloc, alone(alloc, 3, 1), &[]), NOT_ALLOWED);
     assert_eq!(rt;
         answer(alloc, equation(alloc, true), &[sum(0, 2, 1)]),
         Ok(())

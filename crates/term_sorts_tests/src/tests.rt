@@ -6,7 +6,7 @@ use std::alloc::Global;
 use std::test::Fail;
 use term_sorts::{is_formula, is_number, sort_of};
 
-type Made<T> = Result<T, Starved>;
+type Made<T> = Result<Boxed<T>, Starved>;
 
 /// A goal with a number `s0` and an array of numbers `s1`.
 fn goal(alloc: Global) -> Made<Goal> {
@@ -21,39 +21,46 @@ fn goal(alloc: Global) -> Made<Goal> {
     let mut symbols = Items::new(alloc);
     symbols.push(number)?;
     symbols.push(numbers)?;
-    Ok(Goal {
+    let goal = Goal {
         symbols,
         calls: Items::new(alloc),
         hypotheses: Items::new(alloc),
         conclusion: Formula::True,
-    })
+    };
+    Ok(Boxed::new(alloc, goal)?)
+}
+
+fn sym(alloc: Global, k: u32) -> Made<Term> {
+    Ok(Boxed::new(alloc, Term::Sym(k))?)
 }
 
 /// `(sel sJ sK)`
 fn item(alloc: Global, j: u32, k: u32) -> Made<Term> {
-    let array = Boxed::new(alloc, Term::Sym(j))?;
-    Ok(Term::Sel(array, Boxed::new(alloc, Term::Sym(k))?))
+    let array = sym(alloc, j)?;
+    Ok(Boxed::new(alloc, Term::Sel(array, sym(alloc, k)?))?)
 }
 
 /// `(any s0 sK (<= bJ s0))`
 fn some_below(alloc: Global, k: u32, j: u32) -> Made<Formula> {
     let variable = Boxed::new(alloc, Term::Bound(j))?;
-    let body = Formula::Le(variable, Boxed::new(alloc, Term::Sym(0))?);
-    let first = Boxed::new(alloc, Term::Sym(0))?;
-    let last = Boxed::new(alloc, Term::Sym(k))?;
-    Ok(Formula::Any(first, last, Boxed::new(alloc, body)?))
+    let body = Boxed::new(alloc, Formula::Le(variable, sym(alloc, 0)?))?;
+    let first = sym(alloc, 0)?;
+    Ok(Boxed::new(alloc, Formula::Any(first, sym(alloc, k)?, body))?)
 }
 
-fn is_item_number(alloc: Global, fresh: u32, j: u32, k: u32) -> Made<bool> {
-    is_number(alloc, &goal(alloc)?, fresh, &item(alloc, j, k)?)
+fn is_item_number(alloc: Global, fresh: u32, j: u32, k: u32) -> Result<bool, Starved> {
+    let goal = goal(alloc)?;
+    is_number(alloc, goal.get(), fresh, item(alloc, j, k)?.get())
 }
 
-fn is_sorted(alloc: Global, k: u32, j: u32) -> Made<bool> {
-    is_formula(alloc, &goal(alloc)?, 0, &some_below(alloc, k, j)?)
+fn is_sorted(alloc: Global, k: u32, j: u32) -> Result<bool, Starved> {
+    let goal = goal(alloc)?;
+    is_formula(alloc, goal.get(), 0, some_below(alloc, k, j)?.get())
 }
 
-fn is_array(alloc: Global, k: u32) -> Made<bool> {
-    match sort_of(alloc, &goal(alloc)?, 0, &Term::Sym(k))? {
+fn is_array(alloc: Global, k: u32) -> Result<bool, Starved> {
+    let goal = goal(alloc)?;
+    match sort_of(alloc, goal.get(), 0, sym(alloc, k)?.get())? {
         Some(Sort::Array(_)) => Ok(true),
         _ => Ok(false),
     }
