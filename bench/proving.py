@@ -3,8 +3,8 @@
 
 The libraries below the crate are to be built, as `rt check` or `rt ci` leaves them. It is no part of the gate, and gives no
 verdict. `Lts` is a function's code as the proof sees it, `Proof` its clauses as they were proved, and a module of `proofs` its
-lemmas. Two tricks that cost little to know: a value of a large enum that is dropped makes the `Lts` of that function long at
-each place where it is, and a box or a list of such values doesn't; and a crate with tests is proved twice."""
+lemmas. A value of a large enum makes the `Lts` of a function long at each place where it is dropped; a box or a list of such
+values doesn't."""
 
 import os
 import subprocess
