@@ -20,3 +20,8 @@ pub mod SortViews
 pub mod Closed
 pub mod Views
 pub mod SortedClosed
+pub mod Words
+pub mod Numerals
+pub mod Operators
+pub mod Apart
+pub mod TextOrder

@@ -16,3 +16,4 @@ pub mod Arrays
 pub mod Places
 pub mod Size
 pub mod Levels
+pub mod Text

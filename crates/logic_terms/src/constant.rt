@@ -25,33 +25,26 @@ fn term_levels(t: &Term) -> u64
     ensures { result ≡ levels (term t.now) }
 {
     match t {
-        Term::Num(_) => 0,
-        Term::Sym(_) => 0,
+        Term::Num(_) | Term::Sym(_) => 0,
         Term::Bound(k) => u64::from(*k) + 1,
-        Term::Add(a, b) => term_levels(a.get()).max(term_levels(b.get())),
-        Term::Sub(a, b) => term_levels(a.get()).max(term_levels(b.get())),
-        Term::Mul(a, b) => term_levels(a.get()).max(term_levels(b.get())),
-        Term::Quo(a, b) => term_levels(a.get()).max(term_levels(b.get())),
-        Term::Rem(a, b) => term_levels(a.get()).max(term_levels(b.get())),
-        Term::Mod(a, b) => term_levels(a.get()).max(term_levels(b.get())),
-        Term::Pow(a, b) => term_levels(a.get()).max(term_levels(b.get())),
+        Term::Add(a, b)
+        | Term::Sub(a, b)
+        | Term::Mul(a, b)
+        | Term::Quo(a, b)
+        | Term::Rem(a, b)
+        | Term::Mod(a, b)
+        | Term::Pow(a, b)
+        | Term::Sel(a, b)
+        | Term::Upd(_, a, b) => term_levels(a.get()).max(term_levels(b.get())),
         Term::Bit(p) => formula_levels(p.get()),
-        Term::Ite(p, a, b) => formula_levels(p.get()).max(term_levels(a.get()).max(term_levels(
-            b.get(),
-        ))),
-        Term::Sel(a, i) => term_levels(a.get()).max(term_levels(i.get())),
-        Term::Sto(a, i, v) => term_levels(a.get()).max(term_levels(i.get()).max(term_levels(
-            v.get(),
-        ))),
-        Term::Fst(a) => term_levels(a.get()),
-        Term::Lst(a) => term_levels(a.get()),
-        Term::Fill(first, last, v) => term_levels(first.get()).max(term_levels(last.get()).max(
-            term_levels(v.get()),
-        )),
-        Term::Rec(ts) => terms_levels(ts),
-        Term::Fld(_, r) => term_levels(r.get()),
-        Term::Upd(_, r, v) => term_levels(r.get()).max(term_levels(v.get())),
-        Term::Call(_, ts) => terms_levels(ts),
+        Term::Ite(p, a, b) => {
+            formula_levels(p.get()).max(term_levels(a.get()).max(term_levels(b.get())))
+        }
+        Term::Sto(a, i, v) | Term::Fill(a, i, v) => {
+            term_levels(a.get()).max(term_levels(i.get()).max(term_levels(v.get())))
+        }
+        Term::Fst(a) | Term::Lst(a) | Term::Fld(_, a) => term_levels(a.get()),
+        Term::Rec(ts) | Term::Call(_, ts) => terms_levels(ts),
     }
 }
 
@@ -61,21 +54,16 @@ fn formula_levels(p: &Formula) -> u64
     ensures { result ≡ levels (formula p.now) }
 {
     match p {
-        Formula::True => 0,
-        Formula::False => 0,
+        Formula::True | Formula::False => 0,
         Formula::Tru(t) => term_levels(t.get()),
-        Formula::Le(a, b) => term_levels(a.get()).max(term_levels(b.get())),
-        Formula::Eq(a, b) => term_levels(a.get()).max(term_levels(b.get())),
+        Formula::Le(a, b) | Formula::Eq(a, b) => term_levels(a.get()).max(term_levels(b.get())),
         Formula::Not(p) => formula_levels(p.get()),
-        Formula::And(p, q) => formula_levels(p.get()).max(formula_levels(q.get())),
-        Formula::Or(p, q) => formula_levels(p.get()).max(formula_levels(q.get())),
-        Formula::Iff(p, q) => formula_levels(p.get()).max(formula_levels(q.get())),
-        Formula::All(first, last, p) => term_levels(first.get()).max(term_levels(last.get()).max(
-            formula_levels(p.get()).saturating_sub(1),
-        )),
-        Formula::Any(first, last, p) => term_levels(first.get()).max(term_levels(last.get()).max(
-            formula_levels(p.get()).saturating_sub(1),
-        )),
+        Formula::And(p, q) | Formula::Or(p, q) | Formula::Iff(p, q) => {
+            formula_levels(p.get()).max(formula_levels(q.get()))
+        }
+        Formula::All(first, last, p) | Formula::Any(first, last, p) => term_levels(first.get()).max(
+            term_levels(last.get()).max(formula_levels(p.get()).saturating_sub(1)),
+        ),
     }
 }
 

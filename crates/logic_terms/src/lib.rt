@@ -26,6 +26,8 @@ mod same_sorts;
 mod sort;
 mod starved;
 mod syntax;
+mod text;
+mod text_laws;
 
 pub use constant::is_constant;
 pub use copy_goal::copy_formulas;
@@ -45,3 +47,5 @@ pub use put::{negate, put_in};
 pub use sort::{Sort, SortList};
 pub use starved::Starved;
 pub use syntax::{Formula, FormulaList, Term, TermList};
+pub use text::{precedes, text_of};
+pub use text_laws::{laws_of_text_order, texts_are_injective};
