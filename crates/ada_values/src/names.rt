@@ -17,9 +17,17 @@ pub type NameList = Items<NameText>;
 pub type WordList = Items<NameText>;
 
 /// The text of a name, which contracts see as the list of its bytes.
-#[derive(Debug, Drop)]
+#[derive(Debug)]
 pub struct NameText {
     bytes: Vec<u8>,
+}
+
+// Written out, so that crates that let names go need no proof of theirs.
+impl Drop for NameText {
+    fn drop(self) {
+        let NameText { bytes } = self;
+        drop(bytes);
+    }
 }
 
 impl Model for NameText {
