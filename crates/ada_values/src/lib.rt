@@ -17,6 +17,3 @@ pub use values::{ArrayValue, FieldList, ItemList, Value, same_value};
 
 /// Want of memory. Where a call names no other cause, this is its only error.
 pub use std::alloc::AllocError as Starved;
-
-#[cfg(test)]
-mod tests;
