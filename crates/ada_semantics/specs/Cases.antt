@@ -1,5 +1,6 @@
 -- The words in which the sample programs are written, with the places that things have in their source.
 use Rattle.std.specs.Prelude.{ℕ, Bool, true, false, List, [], ◌∷◌, map, Option, Some, None, ℤ, pos, negsuc}
+use Rattle.ada_values.specs.Scalars.{integer, integer_last}
 use Rattle.ada_values.specs.Value.{Val, number, truth}
 use Rattle.ada_values.specs.declared.place.Place.{Place}
 use Rattle.ada_values.specs.declared.scalars.Op.{Op}
@@ -37,9 +38,6 @@ key l c k = record { place = place l c; kind = k }
 abbrev pub signed : ℤ → ℤ → Scalar
 signed lo hi = record { lo = lo; hi = hi; base_lo = lo; base_hi = hi; modulus = None }
 
-abbrev pub integer : Scalar
-integer = signed (negsuc 2147483647) (pos 2147483647)
-
 -- the base type of a range that fits 8 bits
 abbrev pub short : Scalar
 short = signed (negsuc 127) (pos 127)
@@ -53,7 +51,7 @@ to lo hi = record { first = lo; last = hi }
 
 -- the range check of `Natural`
 abbrev pub natural : Fit
-natural = Some (to (pos 0) (pos 2147483647))
+natural = Some (to (pos 0) (pos integer_last))
 
 -- ---- expressions, by the line and the column of their first token, or of their operator
 

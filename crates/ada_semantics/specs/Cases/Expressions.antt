@@ -1,11 +1,12 @@
 -- Sample programs on expressions.
 use Rattle.std.specs.Prelude.{true, false, [], ◌∷◌, Some, None, pos, negsuc}
+use Rattle.ada_values.specs.Scalars.{integer}
 use Rattle.ada_values.specs.declared.scalars.Op.TheVariants as op
 use Rattle.typed_units.specs.declared.operators.Connective.{Connective}
 use Rattle.typed_units.specs.declared.operators.Quantifier.TheVariants as quantifier
 use Rattle.typed_units.specs.declared.operators.Relation.TheVariants as relation
 use Rattle.typed_units.specs.Syntax.{param, local, index, at, convert, succ_at, unary, member, choose, arm, other, quantified, Text}
-use Rattle.ada_semantics.specs.Cases.{place, integer, short, byte, to, num, flag, name, prefix, parens, calc, plus, minus, over, related, equal, less, greater, both, set_to, claim, by_in, by_out, by_in_out, procedure_of, with_opening, one}
+use Rattle.ada_semantics.specs.Cases.{place, short, byte, to, num, flag, name, prefix, parens, calc, plus, minus, over, related, equal, less, greater, both, set_to, claim, by_in, by_out, by_in_out, procedure_of, with_opening, one}
 
 --  1  procedure Inc (X : in out Integer) is
 --  2  begin

@@ -4,12 +4,13 @@
 --    type P is record A : Integer; B : Integer; end record;
 --    type Table is array (1 .. 2) of P;
 use Rattle.std.specs.Prelude.{ℕ, zero, suc, true, false, List, [], ◌∷◌, Some, None, ℤ, pos, negsuc}
+use Rattle.ada_values.specs.Scalars.{integer}
 use Rattle.ada_values.specs.Value.{Val, array, record_of, Vals, no_vals, val, vals_of}
 use Rattle.typed_units.specs.declared.operators.Composite.TheVariants as composite
 use Rattle.typed_units.specs.declared.operators.Quantifier.TheVariants as quantifier
 use Rattle.typed_units.specs.Syntax.{param, local, index, Ex, at, op1, op2, first, last, length_at, item, component, aggregate, Assocs, no_assocs, assoc, quantified, Fit, Step, to_component, to_item, pass_in_out, Text}
 use Rattle.ada_semantics.specs.Values.{place_of}
-use Rattle.ada_semantics.specs.Cases.{place, integer, short, to, num, name, plus, over, equal, greater, part_of, set_to, put_in, call_of, natural, by_in, by_out, by_in_out, procedure_of, one, program, int}
+use Rattle.ada_semantics.specs.Cases.{place, short, to, num, name, plus, over, equal, greater, part_of, set_to, put_in, call_of, natural, by_in, by_out, by_in_out, procedure_of, one, program, int}
 
 -- ---- values
 

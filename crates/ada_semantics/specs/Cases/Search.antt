@@ -1,14 +1,15 @@
 -- Binary search, as a larger sample; `type Arr is array (Positive range <>) of Integer`.
 use Rattle.std.specs.Prelude.{ℕ, true, [], ◌∷◌, Some, None, pos}
+use Rattle.ada_values.specs.Scalars.{integer, integer_last}
 use Rattle.typed_units.specs.declared.operators.Connective.TheVariants as connective
 use Rattle.typed_units.specs.declared.operators.Relation.TheVariants as relation
 use Rattle.typed_units.specs.Syntax.{param, local, answer, present, Fit, Ex, at, read, op1, first, last, length_at, member, choose, arm, other, st, loop, while, invariant, branch, when, otherwise, done, Routine, Text}
-use Rattle.ada_semantics.specs.Cases.{place, integer, to, num, flag, name, parens, plus, minus, over, related, equal, less, both, seq, set_to, give_back, if_so, natural, by_in, function_of, with_pre, with_post, one}
+use Rattle.ada_semantics.specs.Cases.{place, to, num, flag, name, parens, plus, minus, over, related, equal, less, both, seq, set_to, give_back, if_so, natural, by_in, function_of, with_pre, with_post, one}
 use Rattle.ada_semantics.specs.Cases.Parts.{item_of}
 
 -- the range check of `Positive`
 abbrev pub positive : Fit
-positive = Some (to (pos 1) (pos 2147483647))
+positive = Some (to (pos 1) (pos integer_last))
 
 abbrev pub first_of : ℕ → ℕ → Ex
 first_of l c = at (place l c) (op1 first (name l c (param 0)))
