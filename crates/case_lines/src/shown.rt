@@ -2,7 +2,8 @@
 
 use std::alloc::AllocError;
 
-/// Adds bytes to a line, as a word in quotes has them: printable bytes of ASCII as they are, and others escaped.
+/// Adds bytes to a line, as a word in quotes has them between its quotes: what would mean something else there is escaped, and
+/// so are bytes that aren't printable ASCII.
 pub fn push_shown(line: &mut String, bytes: &[u8]) -> Result<(), AllocError> {
     for byte in bytes {
         push_byte(line, *byte)?;
@@ -13,7 +14,10 @@ pub fn push_shown(line: &mut String, bytes: &[u8]) -> Result<(), AllocError> {
 fn push_byte(line: &mut String, byte: u8) -> Result<(), AllocError> {
     match byte {
         b'\n' => line.push_str("\\n"),
-        b'\\' => line.push_str("\\\\"),
+        b'\\' | b'"' | b'{' | b'}' => {
+            line.push('\\')?;
+            line.push(char::from(byte))
+        }
         b' '..=b'~' => line.push(char::from(byte)),
         _ => write!(line, "\\x{byte:02x}"),
     }
