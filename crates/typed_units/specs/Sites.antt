@@ -8,10 +8,9 @@ use Rattle.typed_units.specs.declared.checks.SiteKey.{SiteKey}
 abbrev pub same_place : Place → Place → Bool
 same_place p q = (p.file == q.file) && (p.line == q.line) && (p.column == q.column)
 
-abbrev pub place_before : Place → Place → Bool
-place_before p q =
-    nat_lt p.file q.file
-    || ((p.file == q.file) && (nat_lt p.line q.line || ((p.line == q.line) && nat_lt p.column q.column)))
+-- the first numbers decide, and where these are one the rest does
+abbrev pub first_then : ℕ → ℕ → Bool → Bool
+first_then x y rest = nat_lt x y || ((x == y) && rest)
 
 -- the kinds in the order in which a report lists those at one place
 abbrev pub kind_number : CheckKind → ℕ
@@ -31,4 +30,8 @@ abbrev pub same_site : SiteKey → SiteKey → Bool
 same_site c d = same_place c.place d.place && (kind_number c.kind == kind_number d.kind)
 
 abbrev pub site_before : SiteKey → SiteKey → Bool
-site_before c d = place_before c.place d.place || (same_place c.place d.place && nat_lt (kind_number c.kind) (kind_number d.kind))
+site_before c d =
+    first_then c.place.file d.place.file
+    (first_then c.place.line d.place.line
+    (first_then c.place.column d.place.column
+    (nat_lt (kind_number c.kind) (kind_number d.kind))))

@@ -7,7 +7,7 @@ mod operators;
 mod programs;
 mod statements;
 
-pub use checks::{CheckKind, SiteKey};
+pub use checks::{CheckKind, SiteKey, laws_of_sites, same_site};
 pub use expressions::{
     Actual, Argument, Arm, Association, Expr, ExprNode, Fitted, Indexed, Step, Target,
 };
