@@ -22,6 +22,10 @@ pub mod Loops
 pub mod Calls
 pub mod Parts
 pub mod Search
+pub mod Contracts
+pub mod Operations
+pub mod Turns
+pub mod Pieces
 
 -- ---- places
 
