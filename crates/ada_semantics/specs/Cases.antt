@@ -26,6 +26,7 @@ pub mod Contracts
 pub mod Operations
 pub mod Turns
 pub mod Pieces
+pub mod Starts
 
 -- ---- places
 

@@ -9,5 +9,6 @@ pub mod loops;
 pub mod operations;
 pub mod parts;
 pub mod pieces;
+pub mod starts;
 pub mod statements;
 pub mod turns;
