@@ -55,13 +55,13 @@ abbrev pub never : Text
 never = one (procedure_of [] (st (place 3 4) (loop 0 (for false 0 (num 3 13 5) (num 3 18 1)) done []
     (seq (claim 4 7 (flag 4 22 false) ∷ []))) ∷ []))
 
---  1  procedure Digits (S : out Integer) is
+--  1  procedure Figure (S : out Integer) is
 --  2  begin
 --  3     S := 0;
 --  4     for I in 1 .. 3 loop   -- or `for I in reverse 1 .. 3 loop`
 --  5        S := 10 * S + I;
 --  6     end loop;
---  7  end Digits;
+--  7  end Figure;
 abbrev pub digits : Bool → Text
 digits reversed = one (procedure_of (by_out ∷ [])
     (set_to 3 4 (param 0) None (num 3 9 0)

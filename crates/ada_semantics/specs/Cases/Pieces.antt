@@ -37,9 +37,9 @@ make = one (procedure_of (by_in ∷ by_out ∷ []) (set_to 3 4 (param 1) None
     (ex (place 3 9) (aggregate composite.Array (to (pos 3) (pos 5)) (assoc (to (pos 4) (pos 4) ∷ []) false [] (name 3 15 (param 0))
     (others_to [] (plus 3 30 (name 3 28 (param 0)) (num 3 32 1)))))) ∷ []))
 
---  1  procedure Both (X : in Integer; R : out T) is   -- type T is record N : Natural; S : Small; end record; subtype Small is Integer range -10 .. 10
+--  1  procedure Both (X : in Integer; W : out R) is   -- type R is record N : Natural; S : Small; end record; subtype Small is Integer range -10 .. 10
 --  2  begin
---  3     R := (N | S => X);
+--  3     W := (N | S => X);
 --  4  end Both;
 abbrev pub both_checked : Text
 both_checked = one (procedure_of (by_in ∷ by_out ∷ []) (set_to 3 4 (param 1) None
