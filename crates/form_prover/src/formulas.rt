@@ -5,7 +5,7 @@ ghost use Rattle.ada_semantics.specs.Operators.{ordered};
 ghost use Rattle.logic_terms.specs.View.{term, formula};
 ghost use Rattle.logic_terms.specs.Node.{sym, op1, op2, neg, conj, eq};
 ghost use Rattle.vc_tree.specs.Rules.{at_most, plus_one, related, bounds_of};
-ghost use Rattle.form_prover.specs.Program.{integer};
+ghost use Rattle.ada_values.specs.Scalars.{integer};
 ghost use Rattle.form_prover.specs.Formulas.{operand_node, condition_node, input_nodes};
 
 use ada_values::NameList;
