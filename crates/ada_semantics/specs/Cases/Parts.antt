@@ -4,7 +4,7 @@
 --    type P is record A : Integer; B : Integer; end record;
 --    type Table is array (1 .. 2) of P;
 use Rattle.std.specs.Prelude.{ℕ, zero, suc, true, false, List, [], ◌∷◌, Some, None, ℤ, pos, negsuc}
-use Rattle.ada_values.specs.Scalars.{integer}
+use Rattle.ada_values.specs.Scalars.{integer, integer_last}
 use Rattle.ada_values.specs.Value.{Val, array, record_of, Vals, no_vals, val, vals_of}
 use Rattle.typed_units.specs.declared.operators.Bounds.{Bounds}
 use Rattle.typed_units.specs.declared.operators.Composite.TheVariants as composite
@@ -161,7 +161,7 @@ written = one (procedure_of (by_in ∷ by_out ∷ [])
 --  4  end Same;
 abbrev pub same_all : Text
 same_all = one (procedure_of (by_in ∷ by_out ∷ [])
-    (set_to 3 4 (param 1) None (row_aggregate 9 (others_to (to (pos 0) (pos 2147483647) ∷ []) (name 3 20 (param 0)))) ∷ []))
+    (set_to 3 4 (param 1) None (row_aggregate 9 (others_to (to (pos 0) (pos integer_last) ∷ []) (name 3 20 (param 0)))) ∷ []))
 
 -- ---- records
 
