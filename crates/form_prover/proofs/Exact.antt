@@ -64,7 +64,7 @@ abbrev pub way_after : ℕ → ℕ → Way → Way
 way_after zero k y = y
 way_after (suc n) k y = way_after n (suc k) (learn (meet y k numbers (any_role.Input k)) (bounds_of integer (node.sym k)))
 
-goals_after : (n k : ℕ) (y : Way) (t : Tree) → goals_from [] y (input_tree n k t) ≡ goals_from [] (way_after n k y) t
+pub goals_after : (n k : ℕ) (y : Way) (t : Tree) → goals_from [] y (input_tree n k t) ≡ goals_from [] (way_after n k y) t
 goals_after zero k y t = refl
 goals_after (suc n) k y t = goals_after n (suc k) (learn (meet y k numbers (any_role.Input k)) (bounds_of integer (node.sym k))) t
 
