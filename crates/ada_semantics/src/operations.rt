@@ -5,7 +5,7 @@ ghost use Rattle.ada_values.specs.Value.{number, truth};
 ghost use Rattle.typed_units.specs.declared.checks.CheckKind.TheVariants as kind;
 ghost use Rattle.ada_semantics.specs.Plain.{plain, fails, short};
 ghost use Rattle.ada_semantics.specs.Cases.{key, int, ends_with};
-ghost use Rattle.ada_semantics.specs.Cases.Operations.{truths, arith, before, colors, color_before, arms, low_first, within};
+ghost use Rattle.ada_semantics.specs.Cases.Operations.{truths, shorts, arith, before, colors, color_before, arms, low_first, within};
 
 /// `not`, `and`, `or` and `xor` of each two truth values.
 pub fn logical_operators()
@@ -17,6 +17,15 @@ pub fn logical_operators()
         ≡ ends_with (truth false ∷ truth true ∷ truth true ∷ truth false ∷ truth true ∷ truth true ∷ []) }
     ensures false_false { plain truths 0 (truth false ∷ truth false ∷ []) [] 100
         ≡ ends_with (truth false ∷ truth false ∷ truth true ∷ truth false ∷ truth false ∷ truth false ∷ []) }
+{}
+
+/// `and then` and `or else` of each two truth values, with the right one where it is needed.
+pub fn short_circuit_forms()
+    ensures true_true { plain shorts 0 (truth true ∷ truth true ∷ []) [] 7 ≡ ends_with (truth true ∷ truth true ∷ truth true ∷ truth true ∷ []) }
+    ensures true_false { plain shorts 0 (truth true ∷ truth false ∷ []) [] 7 ≡ ends_with (truth true ∷ truth false ∷ truth false ∷ truth true ∷ []) }
+    ensures false_true { plain shorts 0 (truth false ∷ truth true ∷ []) [] 7 ≡ ends_with (truth false ∷ truth true ∷ truth false ∷ truth true ∷ []) }
+    ensures false_false { plain shorts 0 (truth false ∷ truth false ∷ []) [] 7 ≡ ends_with (truth false ∷ truth false ∷ truth false ∷ truth false ∷ []) }
+    ensures needed { plain shorts 0 (truth true ∷ truth true ∷ []) [] 6 ≡ short }
 {}
 
 /// Unary `+`, `abs` and `'Pred`.

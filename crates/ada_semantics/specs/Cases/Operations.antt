@@ -22,6 +22,16 @@ truths = one (procedure_of (by_in ∷ by_in ∷ by_out ∷ by_out ∷ by_out ∷
     ∷ set_to 5 4 (param 4) None (both connective.Or (name 5 9 (param 0)) (name 5 14 (param 1)))
     ∷ set_to 6 4 (param 5) None (both connective.Xor (name 6 9 (param 0)) (name 6 15 (param 1))) ∷ []))
 
+--  1  procedure Shorts (A, B : in Boolean; C, D : out Boolean) is
+--  2  begin
+--  3     C := A and then B;
+--  4     D := A or else B;
+--  5  end Shorts;
+abbrev pub shorts : Text
+shorts = one (procedure_of (by_in ∷ by_in ∷ by_out ∷ by_out ∷ [])
+    (set_to 3 4 (param 2) None (both connective.AndThen (name 3 9 (param 0)) (name 3 20 (param 1)))
+    ∷ set_to 4 4 (param 3) None (both connective.OrElse (name 4 9 (param 0)) (name 4 19 (param 1))) ∷ []))
+
 --  1  procedure Arith (X : in Integer; A, P, S : out Integer) is
 --  2  begin
 --  3     S := +X;
