@@ -17,10 +17,10 @@ use Rattle.logic_terms.specs.declared.syntax.Formula.{Formula}
 use Rattle.logic_terms.proofs.SortedClosed.{sorted_closed}
 use Rattle.cert_rules.specs.Judged.{Judged, refused, when}
 use Rattle.cert_rules.specs.Context.{signature, is_some_truths, is_formula, all_formulas}
-use Rattle.line_faults.specs.Judges.{IsFault}
+use Rattle.cert_rules.specs.Judges.{IsFault}
 use Rattle.cert_rules.specs.Rules.{of_kind}
-use Rattle.line_faults.specs.declared.fault.LineFault.{LineFault}
-use Rattle.linear_lines.specs.Here.{here}
+use Rattle.cert_rules.specs.declared.fault.LineFault.{LineFault}
+use Rattle.cert_linear.specs.Here.{here}
 
 -- a fault of what comes where the condition holds
 pub fault_when : {A : Type 0} (e : LineFault) (b : Bool) (j : Judged A) → b ≡ true → IsFault e j → IsFault e (when b j)

@@ -12,9 +12,9 @@ use Rattle.cert_rules.specs.Judged.{Judged, yields}
 use Rattle.cert_rules.specs.Context.{Context}
 use Rattle.cert_rules.specs.Rules.{judge}
 use Rattle.cert_rules.specs.Checking.{Answer, accepted, not_allowed, leaves_range, no_end, new_symbols, ends_empty, answer_after, answer_from, answer_to}
-use Rattle.line_faults.specs.Judges.{IsFault}
-use Rattle.line_faults.specs.declared.fault.LineFault.{LineFault}
-use Rattle.linear_lines.specs.Here.{context}
+use Rattle.cert_rules.specs.Judges.{IsFault}
+use Rattle.cert_rules.specs.declared.fault.LineFault.{LineFault}
+use Rattle.cert_linear.specs.Here.{context}
 use Rattle.cert_checker.specs.Answers.{IsRefusal, Refuses}
 use Rattle.cert_checker.specs.declared.refusal.CertRefusal.{CertRefusal}
 

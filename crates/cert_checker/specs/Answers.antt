@@ -4,7 +4,7 @@ use Rattle.cert_lines.specs.Line.{Code}
 use Rattle.cert_lines.specs.View.{code}
 use Rattle.cert_lines.specs.declared.rule.Rule.{Rule}
 use Rattle.cert_rules.specs.Checking.{Answer, accepted, not_allowed, leaves_range, no_end}
-use Rattle.line_faults.specs.declared.fault.LineFault.{LineFault}
+use Rattle.cert_rules.specs.declared.fault.LineFault.{LineFault}
 use Rattle.cert_checker.specs.declared.refusal.CertRefusal.{CertRefusal}
 
 -- memory may run out anywhere

@@ -2,19 +2,19 @@
 
 ghost use Rattle.cert_lines.specs.View.{line as line_of};
 ghost use Rattle.cert_rules.specs.Rules.{judge};
-ghost use Rattle.line_faults.specs.Judges.{Judges, clause};
-ghost use Rattle.linear_lines.specs.Here.{context};
-ghost use Rattle.clause_store.specs.Store.{clauses};
+ghost use Rattle.cert_rules.specs.Judges.{Judges, clause};
+ghost use Rattle.cert_linear.specs.Here.{context};
+ghost use Rattle.cert_store.specs.Store.{clauses};
 
 use crate::lines::{
     array_fact, choice, computing, division, extensionality, field_fact, instance, linear, opening,
     product, propagation, replacing, trichotomy, witness,
 };
 use cert_lines::CertLine;
-use clause_store::ClauseStore;
-use line_faults::LineFault;
+use cert_store::ClauseStore;
+use cert_rules::LineFault;
 use logic_terms::{FormulaList, Goal};
-use rule_clauses::hypothesis;
+use cert_clauses::hypothesis;
 use std::alloc::Global;
 
 /// The clause of a line after those whose clauses are stored, where `fresh` new symbols are made.

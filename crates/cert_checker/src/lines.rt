@@ -7,30 +7,30 @@ ghost use Rattle.logic_terms.specs.View.{term, formula};
 ghost use Rattle.cert_lines.specs.Line.{opening, choice, propagation, linear, trichotomy, instance, witness, replacing, array_fact, extensionality, field_fact, division, product, computing};
 ghost use Rattle.cert_lines.specs.View.{step};
 ghost use Rattle.logic_terms.specs.Node.{Node};
-ghost use Rattle.term_sorts.specs.Found.{found};
+ghost use Rattle.cert_sorts.specs.Found.{found};
 ghost use Rattle.cert_rules.specs.Compound.{extensional as extensional_by};
 ghost use Rattle.cert_rules.specs.Context.{all_formulas, next_symbol};
 ghost use Rattle.cert_rules.specs.Judged.{yields};
 ghost use Rattle.cert_rules.specs.Rules.{judge, of_arrays};
-ghost use Rattle.line_faults.specs.Judges.{Judges, clause};
-ghost use Rattle.linear_lines.specs.Here.{context, here};
-ghost use Rattle.clause_store.specs.Store.{clauses};
+ghost use Rattle.cert_rules.specs.Judges.{Judges, clause};
+ghost use Rattle.cert_linear.specs.Here.{context, here};
+ghost use Rattle.cert_store.specs.Store.{clauses};
 
-use array_clauses::{array_clause, extensional};
+use cert_arrays::{array_clause, extensional};
 use cert_lines::{HintList, StepLines};
-use clause_store::ClauseStore;
-use division_clauses::division_fact;
-use line_faults::LineFault;
-use linear_lines::linear_line;
+use cert_store::ClauseStore;
+use cert_division::division_fact;
+use cert_rules::LineFault;
+use cert_linear::linear_line;
 use logic_terms::{
     Formula, FormulaList, Goal, Sort, Starved, Term, copy_formulas, is_constant, same_sort,
 };
-use rule_clauses::{
+use cert_clauses::{
     compared, computed, field_clause, instance_of, multiplied, opened, sides, witness_of,
 };
 use std::alloc::Global;
-use term_replacing::replacement;
-use term_sorts::{is_formula, is_number, sort_of};
+use cert_replacing::replacement;
+use cert_sorts::{is_formula, is_number, sort_of};
 
 /// A line by C2 of a connective.
 pub fn opening(

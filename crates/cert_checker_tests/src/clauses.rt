@@ -1,13 +1,13 @@
 //! Clauses worked out by hand.
 
-use division_clauses::division_fact;
-use line_faults::LineFault;
+use cert_division::division_fact;
+use cert_rules::LineFault;
 use logic_terms::{Formula, FormulaList, Starved, Term, same_formula};
-use rule_clauses::opened;
+use cert_clauses::opened;
 use sqlite_items::Boxed;
 use std::alloc::Global;
 use std::test::Fail;
-use term_replacing::replacement;
+use cert_replacing::replacement;
 
 type Made<T> = Result<T, Starved>;
 

@@ -4,7 +4,7 @@ use Rattle.std.specs.Prelude.{◌^◌, ℤ, pos, negsuc}
 use Rattle.std.proofs.lemmas.Bool.{false≢true, true≢false, lt-ltb, ltb-true}
 use Rattle.logic_terms.specs.Node.{Node, num, flag}
 use Rattle.cert_lines.specs.Line.{sum_of, tighten}
-use Rattle.term_text.specs.Text.{number_text, whole_text, node_text}
+use Rattle.logic_terms.specs.Text.{number_text, whole_text, node_text}
 use Rattle.term_reader.specs.Bytes.{is_digit, first, Ends, IsWhole, IsFault}
 use Rattle.term_reader.specs.Words.{IsWordFault}
 use Rattle.term_reader.specs.Reads.{Between, IsRead, IsReadFault}

@@ -1,7 +1,7 @@
 //! Numbers, each with a space before it.
 
 ghost use Rattle.std.specs.Prelude.{◌≡◌, ◌≢◌, ◌+◌, ◌-◌, ◌^◌, ◌<◌, ◌≤◌, ◌∷◌, ◌++◌, length, drop, pos, negsuc, IfOk, IfErr};
-ghost use Rattle.term_text.specs.Text.{whole_text};
+ghost use Rattle.logic_terms.specs.Text.{whole_text};
 ghost use Rattle.term_reader.specs.Bytes.{first, Ends, IsFault};
 ghost use Rattle.logic_text.specs.Certs.{spaced_number, spaced_whole};
 ghost use Rattle.logic_text.specs.Phases.{IsUpTo, IsBadAt};

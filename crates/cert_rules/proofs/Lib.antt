@@ -14,3 +14,5 @@ pub mod Replacing
 pub mod Compound
 pub mod Division
 pub mod Sound
+pub mod Heads
+pub mod Parts

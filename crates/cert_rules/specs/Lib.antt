@@ -12,3 +12,5 @@ pub mod Rules
 pub mod Checking
 pub mod Worked
 pub mod WorkedCompound
+pub mod Judges
+pub mod Literal

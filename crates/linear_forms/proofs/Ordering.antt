@@ -11,9 +11,9 @@ use Rattle.logic_terms.specs.Node.{Node, mul, add, sub, arith as compute_by, num
 use Rattle.logic_terms.specs.Value.{same_int}
 use Rattle.logic_terms.specs.Same.{same_node}
 use Rattle.logic_terms.proofs.SameNodes.{same_node-is, same_node-refl}
-use Rattle.term_text.specs.Text.{node_text, text_order, is_less, precedes}
-use Rattle.term_text.proofs.Apart.{texts_apart}
-use Rattle.term_text.proofs.TextOrder.{total_order, precedes_chain, precedes_itself, precedes_neither, same_texts}
+use Rattle.logic_terms.specs.Text.{node_text, text_order, is_less, precedes}
+use Rattle.logic_terms.proofs.Apart.{texts_apart}
+use Rattle.logic_terms.proofs.TextOrder.{total_order, precedes_chain, precedes_itself, precedes_neither, same_texts}
 use Rattle.linear_forms.specs.Form.{Monomial, monomial, Form, form, kept, with_monomial, gathered, scaled, combined, products, multiplied, form_of_node, floor, divides_all, divisor, divided, tightened, total}
 use Rattle.linear_forms.specs.Ordered.{PrecedesAll, AreOrdered, IsOrdered, coefficient_of}
 use Rattle.linear_forms.proofs.Tightening.{floor_exact, greatest_divides}

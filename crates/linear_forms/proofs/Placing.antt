@@ -6,7 +6,7 @@ use Rattle.std.proofs.Math.ListN.{drop_of_length-le}
 use Rattle.logic_terms.specs.Node.{Node}
 use Rattle.logic_terms.specs.View.{term}
 use Rattle.logic_terms.specs.Same.{same_node}
-use Rattle.term_text.specs.Text.{precedes}
+use Rattle.logic_terms.specs.Text.{precedes}
 use Rattle.linear_forms.specs.Form.{Monomial, kept, with_monomial}
 use Rattle.linear_forms.specs.Fits.{raised}
 use Rattle.linear_forms.specs.View.{part, parts}

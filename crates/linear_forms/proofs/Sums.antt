@@ -7,7 +7,7 @@ use Rattle.logic_terms.specs.Node.{Node}
 use Rattle.logic_terms.specs.Value.{same_int}
 use Rattle.logic_terms.specs.Same.{same_node}
 use Rattle.logic_terms.proofs.SameNodes.{same_int-is, same_node-is}
-use Rattle.term_text.specs.Text.{precedes}
+use Rattle.logic_terms.specs.Text.{precedes}
 use Rattle.linear_forms.specs.Form.{Monomial, monomial, Form, sum_at, kept, with_monomial, gathered, scaled, combined}
 use Rattle.linear_forms.specs.Ordered.{coefficient_of}
 use Rattle.linear_forms.proofs.Integers.{add_mul, mul_add, mul_assoc}

@@ -6,7 +6,7 @@ use Rattle.std.proofs.Math.IntN.{zero-*ℤ, *ℤ-zero, *ℤ_comm}
 use Rattle.logic_terms.specs.Node.{mul, arith as compute_by, Node, op2}
 use Rattle.logic_terms.specs.Value.{Value, as_number}
 use Rattle.logic_terms.specs.Meaning.{World, meaning}
-use Rattle.term_text.specs.Text.{precedes}
+use Rattle.logic_terms.specs.Text.{precedes}
 use Rattle.linear_forms.specs.Form.{Monomial, Form, monomials_value, form_value, gathered, scaled, combined, multiples, products, multiplied}
 use Rattle.linear_forms.proofs.Sums.{no_more, gathered_sum, scaled_sum, combined_sum}
 use Rattle.linear_forms.proofs.Integers.{add_mul, mul_add, mul_mul}

@@ -4,7 +4,7 @@ use Rattle.std.specs.Prelude.{Bool, true, ◌&&◌, ℤ, pos, negsuc, ◌+ℤ◌
 use Rattle.logic_terms.specs.Node.{add, sub, mul, arith, Node, num, op2}
 use Rattle.logic_terms.specs.Run.{is_narrow}
 use Rattle.logic_terms.specs.Same.{same_node}
-use Rattle.term_text.specs.Text.{precedes}
+use Rattle.logic_terms.specs.Text.{precedes}
 use Rattle.linear_forms.specs.Form.{Monomial, Form, with_monomial, gathered, scaled, products, form_of_node}
 
 -- -2 ** 127 to 2 ** 127 - 1

@@ -4,7 +4,7 @@ use Rattle.logic_terms.specs.Node.{add, sub, mul, arith, Node, num, op2}
 use Rattle.logic_terms.specs.Value.{Value, as_number, same_int}
 use Rattle.logic_terms.specs.Meaning.{World, meaning}
 use Rattle.logic_terms.specs.Same.{same_node}
-use Rattle.term_text.specs.Text.{precedes}
+use Rattle.logic_terms.specs.Text.{precedes}
 
 -- a coefficient times a variable, which may be any term that is no sum and no number
 pub record Monomial : Type 0 where

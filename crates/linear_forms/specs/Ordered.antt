@@ -2,7 +2,7 @@
 use Rattle.std.specs.Prelude.{◌≡◌, ◌≢◌, true, ℤ, pos, ◌+ℤ◌, List, [], ◌∷◌, if◌then◌else◌}
 use Rattle.logic_terms.specs.Node.{Node}
 use Rattle.logic_terms.specs.Same.{same_node}
-use Rattle.term_text.specs.Text.{precedes}
+use Rattle.logic_terms.specs.Text.{precedes}
 use Rattle.linear_forms.specs.Form.{Monomial, Form}
 
 -- the text of v is less than those of the variables

@@ -13,7 +13,7 @@ use crate::place::{Place, place_of};
 use logic_terms::{Starved, Term};
 use sqlite_items::Boxed;
 use std::alloc::Global;
-use term_text::precedes;
+use logic_terms::precedes;
 
 /// Adds a coefficient to that at an index, and drops the monomial where the sum is 0.
 fn raise(parts: &mut Vec<Part>, at: usize, coefficient: i128) -> Result<(), FormFault>

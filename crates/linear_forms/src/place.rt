@@ -8,7 +8,7 @@ ghost use Rattle.linear_forms.specs.Places.{IsPlace};
 use crate::form::Part;
 use logic_terms::{Starved, Term, same_term};
 use std::alloc::Global;
-use term_text::precedes;
+use logic_terms::precedes;
 
 /// Where a variable stands, or is to stand.
 #[derive(Clone, Copy, Debug, PartialEq, Eq)]

@@ -5,7 +5,7 @@ use logic_terms::{Starved, Term};
 use sqlite_items::{Boxed, Items};
 use std::alloc::Global;
 use std::test::Fail;
-use term_text::text_of;
+use logic_terms::text_of;
 
 type Made = Result<Boxed<Term>, Starved>;
 

@@ -8,8 +8,8 @@ use Rattle.std.proofs.Math.IntN.{zero-*ℤ, *ℤ-zero, *ℤ_comm, pos-*ℤ-pos, 
 use Rattle.logic_terms.specs.Node.{Node}
 use Rattle.logic_terms.specs.Same.{same_node}
 use Rattle.logic_terms.proofs.SameNodes.{same_node-is}
-use Rattle.term_text.specs.Text.{precedes}
-use Rattle.term_text.proofs.TextOrder.{precedes_itself}
+use Rattle.logic_terms.specs.Text.{precedes}
+use Rattle.logic_terms.proofs.TextOrder.{precedes_itself}
 use Rattle.linear_forms.specs.Form.{Monomial, Form, sum_at, floor}
 use Rattle.linear_forms.specs.Fits.{fits}
 use Rattle.linear_forms.specs.Ordered.{PrecedesAll, AreOrdered, IsOrdered}

@@ -8,7 +8,7 @@ use Rattle.logic_terms.specs.Node.{Node}
 use Rattle.logic_terms.specs.Value.{same_int}
 use Rattle.logic_terms.specs.Same.{same_node}
 use Rattle.logic_terms.proofs.SameNodes.{same_node-is}
-use Rattle.term_text.specs.Text.{precedes}
+use Rattle.logic_terms.specs.Text.{precedes}
 use Rattle.linear_forms.specs.Form.{Monomial, monomial, Form, kept, with_monomial, gathered, scaled, combined, floor, divides_all, greatest_to, total, divisor, divided, tightened}
 use Rattle.linear_forms.specs.Fits.{fits, combining_fits}
 use Rattle.linear_forms.specs.Ordered.{PrecedesAll, AreOrdered, IsOrdered, coefficient_of}

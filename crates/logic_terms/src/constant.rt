@@ -6,6 +6,7 @@ ghost use Rattle.logic_terms.specs.Levels.{levels, levels_of};
 ghost use Rattle.logic_terms.specs.Names.{is_constant as constant};
 
 use crate::names::names_nothing;
+use crate::parts::{FormulaParts, TermParts, formula_parts, term_parts};
 use crate::syntax::{Formula, Term, TermList};
 
 #[cycle(levels)]
@@ -24,34 +25,15 @@ fn terms_levels(ts: &TermList) -> u64
 fn term_levels(t: &Term) -> u64
     ensures { result ≡ levels (term t.now) }
 {
-    match t {
-        Term::Num(_) => 0,
-        Term::Sym(_) => 0,
-        Term::Bound(k) => u64::from(*k) + 1,
-        Term::Add(a, b) => term_levels(a.get()).max(term_levels(b.get())),
-        Term::Sub(a, b) => term_levels(a.get()).max(term_levels(b.get())),
-        Term::Mul(a, b) => term_levels(a.get()).max(term_levels(b.get())),
-        Term::Quo(a, b) => term_levels(a.get()).max(term_levels(b.get())),
-        Term::Rem(a, b) => term_levels(a.get()).max(term_levels(b.get())),
-        Term::Mod(a, b) => term_levels(a.get()).max(term_levels(b.get())),
-        Term::Pow(a, b) => term_levels(a.get()).max(term_levels(b.get())),
-        Term::Bit(p) => formula_levels(p.get()),
-        Term::Ite(p, a, b) => formula_levels(p.get()).max(term_levels(a.get()).max(term_levels(
-            b.get(),
-        ))),
-        Term::Sel(a, i) => term_levels(a.get()).max(term_levels(i.get())),
-        Term::Sto(a, i, v) => term_levels(a.get()).max(term_levels(i.get()).max(term_levels(
-            v.get(),
-        ))),
-        Term::Fst(a) => term_levels(a.get()),
-        Term::Lst(a) => term_levels(a.get()),
-        Term::Fill(first, last, v) => term_levels(first.get()).max(term_levels(last.get()).max(
-            term_levels(v.get()),
-        )),
-        Term::Rec(ts) => terms_levels(ts),
-        Term::Fld(_, r) => term_levels(r.get()),
-        Term::Upd(_, r, v) => term_levels(r.get()).max(term_levels(v.get())),
-        Term::Call(_, ts) => terms_levels(ts),
+    match term_parts(t) {
+        TermParts::Number(_) | TermParts::Symbol(_) => 0,
+        TermParts::Bound(k) => u64::from(k) + 1,
+        TermParts::Bit(p) => formula_levels(p),
+        TermParts::Choice(p, a, b) => { formula_levels(p).max(term_levels(a).max(term_levels(b))) }
+        TermParts::One(_, a) => term_levels(a),
+        TermParts::Two(_, a, b) => term_levels(a).max(term_levels(b)),
+        TermParts::Three(_, a, b, c) => term_levels(a).max(term_levels(b).max(term_levels(c))),
+        TermParts::List(_, ts) => terms_levels(ts),
     }
 }
 
@@ -60,22 +42,15 @@ fn term_levels(t: &Term) -> u64
 fn formula_levels(p: &Formula) -> u64
     ensures { result ≡ levels (formula p.now) }
 {
-    match p {
-        Formula::True => 0,
-        Formula::False => 0,
-        Formula::Tru(t) => term_levels(t.get()),
-        Formula::Le(a, b) => term_levels(a.get()).max(term_levels(b.get())),
-        Formula::Eq(a, b) => term_levels(a.get()).max(term_levels(b.get())),
-        Formula::Not(p) => formula_levels(p.get()),
-        Formula::And(p, q) => formula_levels(p.get()).max(formula_levels(q.get())),
-        Formula::Or(p, q) => formula_levels(p.get()).max(formula_levels(q.get())),
-        Formula::Iff(p, q) => formula_levels(p.get()).max(formula_levels(q.get())),
-        Formula::All(first, last, p) => term_levels(first.get()).max(term_levels(last.get()).max(
-            formula_levels(p.get()).saturating_sub(1),
-        )),
-        Formula::Any(first, last, p) => term_levels(first.get()).max(term_levels(last.get()).max(
-            formula_levels(p.get()).saturating_sub(1),
-        )),
+    match formula_parts(p) {
+        FormulaParts::Constant(_) => 0,
+        FormulaParts::Truth(t) => term_levels(t),
+        FormulaParts::Compared(_, a, b) => term_levels(a).max(term_levels(b)),
+        FormulaParts::Not(p) => formula_levels(p),
+        FormulaParts::Joined(_, p, q) => formula_levels(p).max(formula_levels(q)),
+        FormulaParts::Quantified(_, first, last, p) => {
+            term_levels(first).max(term_levels(last).max(formula_levels(p).saturating_sub(1)))
+        }
     }
 }
 

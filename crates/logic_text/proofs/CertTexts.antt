@@ -5,7 +5,7 @@ use Rattle.std.proofs.lemmas.Bool.{eqb-false}
 use Rattle.std.proofs.lemmas.List.{append_cancel_left}
 use Rattle.logic_terms.specs.Node.{Node, num}
 use Rattle.cert_lines.specs.Line.{Step, sum_of, tighten, Line, given, opening, choice, propagation, linear, trichotomy, instance, witness, replacing, array_fact, extensionality, field_fact, division, product, computing}
-use Rattle.term_text.specs.Text.{number_text, node_text}
+use Rattle.logic_terms.specs.Text.{number_text, node_text}
 use Rattle.term_reader.specs.Bytes.{Ends}
 use Rattle.term_reader.proofs.Digits.{same_head, same_tail, value, value_is}
 use Rattle.term_reader.proofs.Skipping.{nodes_same}

@@ -5,7 +5,7 @@ use Rattle.std.proofs.lemmas.List.{map-append, append-nil}
 use Rattle.logic_terms.specs.Node.{Node, flag}
 use Rattle.logic_terms.specs.View.{formula}
 use Rattle.logic_terms.specs.declared.syntax.Formula.{Formula}
-use Rattle.term_text.specs.Text.{node_text}
+use Rattle.logic_terms.specs.Text.{node_text}
 use Rattle.term_reader.specs.Bytes.{first, is_digit, Ends}
 use Rattle.term_reader.specs.Words.{IsWordFault}
 use Rattle.term_reader.specs.Reads.{IsRead, IsReadFault}

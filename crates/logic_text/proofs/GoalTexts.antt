@@ -5,7 +5,7 @@ use Rattle.std.proofs.lemmas.List.{append_cancel_left}
 use Rattle.logic_terms.specs.Node.{Node}
 use Rattle.logic_terms.specs.Value.{Kind, Kinds, no_kinds, kind}
 use Rattle.logic_terms.specs.Sorting.{Called, Signature, Problem}
-use Rattle.term_text.specs.Text.{node_text}
+use Rattle.logic_terms.specs.Text.{node_text}
 use Rattle.term_reader.specs.Sorts.{kind_text}
 use Rattle.term_reader.proofs.Digits.{same_head, same_tail}
 use Rattle.term_reader.proofs.SortTexts.{kinds_apart}

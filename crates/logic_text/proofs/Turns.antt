@@ -4,7 +4,7 @@ use Rattle.std.proofs.lemmas.Bool.{eqb-false, false≢true, and_parts, and_from}
 use Rattle.logic_terms.specs.Node.{Node, flag}
 use Rattle.logic_terms.specs.Value.{Kind, numbers, Kinds, no_kinds, kind}
 use Rattle.logic_terms.specs.Sorting.{Called}
-use Rattle.term_text.specs.Text.{node_text}
+use Rattle.logic_terms.specs.Text.{node_text}
 use Rattle.term_reader.specs.Bytes.{first, is_digit, Ends}
 use Rattle.term_reader.specs.Sorts.{kind_text}
 use Rattle.term_reader.specs.Trees.{Tree, of_node, of_kind, tree_text, IsOf}

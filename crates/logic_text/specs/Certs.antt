@@ -2,7 +2,7 @@
 use Rattle.std.specs.Prelude.{ℕ, ℤ, List, [], ◌∷◌, ◌++◌, codes, length}
 use Rattle.logic_terms.specs.Node.{Node}
 use Rattle.cert_lines.specs.Line.{Step, sum_of, tighten, Line, given, opening, choice, propagation, linear, trichotomy, instance, witness, replacing, array_fact, extensionality, field_fact, division, product, computing}
-use Rattle.term_text.specs.Text.{number_text, whole_text, node_text}
+use Rattle.logic_terms.specs.Text.{number_text, whole_text, node_text}
 use Rattle.logic_text.specs.Goals.{line_end}
 
 -- with a space before it

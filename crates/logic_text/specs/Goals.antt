@@ -3,7 +3,7 @@ use Rattle.std.specs.Prelude.{ℕ, List, [], ◌∷◌, ◌++◌, codes}
 use Rattle.logic_terms.specs.Node.{Node}
 use Rattle.logic_terms.specs.Value.{Kind, Kinds, no_kinds, kind}
 use Rattle.logic_terms.specs.Sorting.{Called, Signature, Problem}
-use Rattle.term_text.specs.Text.{node_text}
+use Rattle.logic_terms.specs.Text.{node_text}
 use Rattle.term_reader.specs.Sorts.{kind_text}
 
 -- LF

@@ -2,11 +2,11 @@
 
 ghost use Rattle.std.specs.Prelude.{◌≡◌, ◌++◌, OnOk, codes};
 ghost use Rattle.logic_terms.specs.View.{term, formula};
-ghost use Rattle.term_text.specs.Text.{node_text};
+ghost use Rattle.logic_terms.specs.Text.{node_text};
 
 use logic_terms::{Formula, Starved, Term};
 use std::alloc::Global;
-use term_text::text_of;
+use logic_terms::text_of;
 
 /// Adds a space and a term.
 fn push_operand(alloc: Global, text: &mut Vec<u8>, t: &Term) -> Result<(), Starved>

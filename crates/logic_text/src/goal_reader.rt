@@ -4,7 +4,7 @@ ghost use Rattle.std.specs.Prelude.{◌≡◌, ◌≢◌, ◌+◌, ◌<◌, ◌�
 ghost use Rattle.logic_terms.specs.Goal.{problem};
 ghost use Rattle.logic_terms.specs.View.{formula};
 ghost use Rattle.term_reader.specs.Bytes.{first};
-ghost use Rattle.term_text.specs.Text.{node_text};
+ghost use Rattle.logic_terms.specs.Text.{node_text};
 ghost use Rattle.logic_text.specs.Answers.{IsPlain, IsGoalFault, most_goal_bytes};
 ghost use Rattle.logic_text.specs.Goals.{line_end, hypotheses_text, conclusion_text, goal_bytes};
 ghost use Rattle.logic_text.specs.Phases.{AtStart, InLines, Rest, Line, Has, IsUpTo, IsBadAt};

@@ -5,7 +5,7 @@ ghost use Rattle.logic_terms.specs.View.{formula};
 ghost use Rattle.logic_terms.specs.Sorts.{sort as kind_of, kinds_in};
 ghost use Rattle.logic_terms.specs.Goal.{called_as, problem};
 ghost use Rattle.term_reader.specs.Sorts.{kind_text};
-ghost use Rattle.term_text.specs.Text.{node_text};
+ghost use Rattle.logic_terms.specs.Text.{node_text};
 ghost use Rattle.logic_text.specs.Answers.{IsBadGoal};
 ghost use Rattle.logic_text.specs.Goals.{line_end, sorts_text, taken_text, call_text, calls_text, hypotheses_text, goal_bytes};
 

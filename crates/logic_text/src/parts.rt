@@ -2,16 +2,16 @@
 
 ghost use Rattle.std.specs.Prelude.{◌≡◌, ◌++◌, OnOk};
 ghost use Rattle.logic_terms.specs.View.{term, formula};
-ghost use Rattle.term_text.specs.Text.{number_text, whole_text};
+ghost use Rattle.logic_terms.specs.Text.{number_text, whole_text};
 ghost use Rattle.logic_text.specs.Certs.{spaced_number, spaced_whole, spaced_node};
 
 use crate::formula_text::push_formula;
 use logic_terms::{Formula, Starved, Term};
 use std::alloc::Global;
-use term_text::text_of;
+use logic_terms::text_of;
 
 /// Adds a number in decimal digits.
-#[tactic(auto, using(term_text::proofs::Numerals::decimal_is))]
+#[tactic(auto, using(logic_terms::proofs::Numerals::decimal_is))]
 pub fn push_number(alloc: Global, text: &mut Vec<u8>, number: u64) -> Result<(), Starved>
     ensures { OnOk result (text.new.items ≡ text.old.items ++ number_text number) }
 {
@@ -29,7 +29,7 @@ pub fn push_spaced_number(alloc: Global, text: &mut Vec<u8>, number: u64) -> Res
 }
 
 /// Adds a whole number in decimal digits, with a sign where it is negative.
-#[tactic(auto, using(term_text::proofs::Numerals::signed_is))]
+#[tactic(auto, using(logic_terms::proofs::Numerals::signed_is))]
 fn push_whole(alloc: Global, text: &mut Vec<u8>, number: i128) -> Result<(), Starved>
     ensures { OnOk result (text.new.items ≡ text.old.items ++ whole_text number) }
 {

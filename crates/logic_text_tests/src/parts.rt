@@ -2,7 +2,7 @@
 
 use std::alloc::{AllocError, Global};
 use term_reader::{Part, ReadFault, Side, push_sort, read_part};
-use term_text::text_of;
+use logic_terms::text_of;
 
 /// The place of the fault of a text, if it has one.
 fn fault(alloc: Global, side: Side, text: &[u8]) -> Option<usize> {

@@ -5,7 +5,7 @@ use Rattle.std.proofs.lemmas.Bool.{and_parts, and_from, and_left, false≢true, 
 use Rattle.std.proofs.lemmas.List.{append-nil}
 use Rattle.logic_terms.specs.Node.{Op1, bit, tru, neg, fst, lst, fld, Op2, arith as compute_by, le, eq, conj, disj, iff, sel, upd, Op3, ite, sto, fill, OpN, Quant, Node, num, flag, sym as symbol, bound, op1, op2, op3, opn, quant, Nodes, no_nodes, node}
 use Rattle.logic_terms.specs.Value.{Kind, numbers, truths, arrays, records, Kinds, no_kinds, kind}
-use Rattle.term_text.specs.Text.{op1_text, op2_text, op3_text, opn_text, quant_text, node_text, spaced_text}
+use Rattle.logic_terms.specs.Text.{op1_text, op2_text, op3_text, opn_text, quant_text, node_text, spaced_text}
 use Rattle.term_reader.specs.Sorts.{kind_text, spaced_kinds}
 use Rattle.term_reader.specs.Values.{is_index, is_whole, same_side, gives1, takes1, fits1, gives2, takes2, fits2, takes3, fitsn, is_node, are_terms}
 use Rattle.term_reader.specs.Trees.{Tree, of_node, of_kind, tree_text, is_of, IsOf, Build, one, two, three, many, over, an_array, a_record, build_text, gives, wants, is_full, nodes_in, kinds_in, made, spaced, is_wanted, all_wanted, IsRight}

@@ -5,7 +5,7 @@ use Rattle.std.specs.Int.Digits.{digits_of}
 use Rattle.std.proofs.lemmas.Int.Digits.{digits_of_step}
 use Rattle.std.proofs.lemmas.Bool.{and_parts, and_from, true≢false, eqb-true, leb-true, le-leb, cond-true, cond-false, cond_both, cases_lt}
 use Rattle.std.proofs.lemmas.List.{map-append}
-use Rattle.term_text.specs.Text.{number_text}
+use Rattle.logic_terms.specs.Text.{number_text}
 use Rattle.term_reader.specs.Bytes.{is_digit, first, Ends, Stuck}
 
 pub same_head : (c d : ℕ) (xs ys : List ℕ) → c ∷ xs ≡ d ∷ ys → c ≡ d

@@ -4,7 +4,7 @@ use Rattle.std.specs.Prelude.{◌==◌, ◌^◌, nat_lt, pos, negsuc}
 use Rattle.std.proofs.lemmas.Bool.{false≢true, true≢false, eqb-false, ltb-true, lt-ltb}
 use Rattle.logic_terms.specs.Node.{Node, num, flag, sym as symbol, bound}
 use Rattle.logic_terms.specs.Value.{Kind, numbers, truths}
-use Rattle.term_text.specs.Text.{number_text}
+use Rattle.logic_terms.specs.Text.{number_text}
 use Rattle.term_reader.specs.declared.part.Side.{Side}
 use Rattle.term_reader.specs.declared.part.Side.TheVariants.{Term, Formula, Sort}
 use Rattle.term_reader.specs.Bytes.{is_digit, first, Ends, IsFault}

@@ -1,7 +1,7 @@
 -- Where a number in a text ends and stops.
 use Rattle.std.proofs.Common.{◌≡◌, refl, sym, ◌∙◌, ap, subst, ℕ, ◌+◌, ◌*◌, ◌-◌, ◌<◌, ◌≤◌, ◌/◌, true, false, List, [], ◌∷◌, ◌++◌, arith, append_assoc}
 use Rattle.std.proofs.lemmas.List.{append-nil}
-use Rattle.term_text.specs.Text.{number_text}
+use Rattle.logic_terms.specs.Text.{number_text}
 use Rattle.term_reader.specs.Bytes.{is_digit, first, IsFault}
 use Rattle.term_reader.specs.Reads.{Between}
 use Rattle.term_reader.proofs.Digits.{one_digit, next_digit, is_a_digit, no_number, great_stops, zero_ends, zero_first}

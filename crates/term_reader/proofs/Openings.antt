@@ -4,7 +4,7 @@ use Rattle.std.proofs.lemmas.Bool.{false≢true, true≢false, ltb-true, lt-ltb}
 use Rattle.std.proofs.lemmas.List.{append_cancel_left, append-nil}
 use Rattle.std.specs.Prelude.{◌^◌, nat_lt}
 use Rattle.logic_terms.specs.Node.{bit, tru, neg, fst, lst, fld, arith as compute_by, le, eq, conj, disj, iff, sel, upd, fields, call}
-use Rattle.term_text.specs.Text.{number_text}
+use Rattle.logic_terms.specs.Text.{number_text}
 use Rattle.term_reader.specs.declared.part.Side.{Side}
 use Rattle.term_reader.specs.Bytes.{first, IsFault}
 use Rattle.term_reader.specs.Reads.{Between}

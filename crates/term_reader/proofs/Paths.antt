@@ -4,7 +4,7 @@ use Rattle.std.specs.Prelude.{Option, Some, None}
 use Rattle.std.proofs.lemmas.Bool.{false≢true, true≢false, eqb-false}
 use Rattle.std.proofs.lemmas.List.{append-nil}
 use Rattle.logic_terms.specs.Node.{flag}
-use Rattle.term_text.specs.Text.{number_text}
+use Rattle.logic_terms.specs.Text.{number_text}
 use Rattle.term_reader.specs.Bytes.{is_digit, first, Ends, IsWhole, IsFault}
 use Rattle.term_reader.specs.Trees.{Tree, of_node, tree_text, is_of, IsOf, Build, build_text, gives, fits, wants, is_full, made, spaced, Level, level, level_text, path, is_wanted, all_wanted, IsRight, Wanted, ends_in_number, IsCut, IsAt, IsAfter}
 use Rattle.term_reader.specs.declared.part.Side.{Side}

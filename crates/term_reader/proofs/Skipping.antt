@@ -5,8 +5,8 @@ use Rattle.std.proofs.lemmas.Bool.{false≢true, true≢false, cond-true, cond-f
 use Rattle.std.proofs.lemmas.List.{append_cancel_right}
 use Rattle.logic_terms.specs.Node.{add, sub, mul, quo, rem, mod_by, pow, Op1, bit, tru, neg, fst, lst, fld, Op2, arith as compute_by, le, eq, conj, disj, iff, sel, upd, Op3, ite, sto, fill, OpN, fields, call, Quant, all, any, Node, num, flag, sym as symbol, bound, op1, op2, op3, opn, quant, Nodes, no_nodes, node}
 use Rattle.logic_terms.specs.Value.{Kind, numbers, truths, arrays, records, Kinds, no_kinds, kind}
-use Rattle.term_text.specs.Text.{number_text, whole_text, op1_text, op2_text, op3_text, opn_text, quant_text, node_text, spaced_text}
-use Rattle.term_text.proofs.Apart.{texts_apart}
+use Rattle.logic_terms.specs.Text.{number_text, whole_text, op1_text, op2_text, op3_text, opn_text, quant_text, node_text, spaced_text}
+use Rattle.logic_terms.proofs.Apart.{texts_apart}
 use Rattle.term_reader.specs.Sorts.{kind_text, spaced_kinds}
 use Rattle.term_reader.specs.Bytes.{is_digit, first, Ends, IsWhole}
 use Rattle.term_reader.specs.Trees.{Tree, of_node, of_kind, tree_text}

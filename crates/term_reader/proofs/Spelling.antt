@@ -4,7 +4,7 @@ use Rattle.std.specs.Prelude.{◌==◌, ◌||◌, ◌&&◌, not}
 use Rattle.std.proofs.lemmas.Bool.{and_parts, false≢true, true≢false, eqb-false, not-true, or_cases}
 use Rattle.std.proofs.lemmas.List.{append_cancel_left}
 use Rattle.logic_terms.specs.Node.{add, sub, mul, quo, rem, mod_by, pow, bit, tru, neg, fst, lst, fld, arith as compute_by, le, eq, conj, disj, iff, sel, upd, ite, sto, fill, fields, call, all, any}
-use Rattle.term_text.specs.Text.{number_text}
+use Rattle.logic_terms.specs.Text.{number_text}
 use Rattle.term_reader.specs.declared.part.Side.{Side}
 use Rattle.term_reader.specs.declared.part.Side.TheVariants.{Term, Formula, Sort}
 use Rattle.term_reader.specs.Bytes.{Ends}

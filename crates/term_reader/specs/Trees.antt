@@ -2,7 +2,7 @@
 use Rattle.std.specs.Prelude.{◌≡◌, ℕ, suc, ◌==◌, nat_lt, Bool, true, false, ◌&&◌, if◌then◌else◌, List, [], ◌∷◌, ◌++◌, length, Option, Some, None, codes}
 use Rattle.logic_terms.specs.Node.{Op1, fld, Op2, upd, Op3, OpN, call, Quant, Node, op1, op2, op3, opn, quant, Nodes, no_nodes, node}
 use Rattle.logic_terms.specs.Value.{Kind, numbers, arrays, records, Kinds, no_kinds, kind}
-use Rattle.term_text.specs.Text.{op1_text, op2_text, op3_text, opn_text, quant_text, node_text}
+use Rattle.logic_terms.specs.Text.{op1_text, op2_text, op3_text, opn_text, quant_text, node_text}
 use Rattle.term_reader.specs.Bytes.{is_digit, first, IsWhole}
 use Rattle.term_reader.specs.Sorts.{kind_text}
 use Rattle.term_reader.specs.Values.{same_side, gives1, takes1, fits1, gives2, takes2, fits2, takes3, fitsn, is_node}

@@ -1,7 +1,7 @@
 //! Numbers in decimal digits.
 
 ghost use Rattle.std.specs.Prelude.{◌≡◌, ◌+◌, ◌<◌, ◌≤◌, ◌^◌, ◌∷◌, ◌++◌, length, drop, IfOk, IfErr};
-ghost use Rattle.term_text.specs.Text.{number_text};
+ghost use Rattle.logic_terms.specs.Text.{number_text};
 ghost use Rattle.term_reader.specs.Bytes.{Ends, IsFault};
 ghost use Rattle.term_reader.specs.Reads.{Between};
 

@@ -1,4 +1,4 @@
-//! The tests of `term_text`. They stand in a crate of their own, since a crate with tests is proved twice.
+//! The tests of `logic_terms`. They stand in a crate of their own, since a crate with tests is proved twice.
 #![tactic(auto)]
 
 #[cfg(test)]

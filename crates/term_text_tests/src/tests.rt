@@ -3,7 +3,7 @@
 use logic_terms::{Formula, Starved, Term, TermList};
 use sqlite_items::{Boxed, Items};
 use std::alloc::Global;
-use term_text::{precedes, text_of};
+use logic_terms::{precedes, text_of};
 
 type Made<T> = Result<Boxed<T>, Starved>;
 

@@ -1,8 +1,8 @@
 use Rattle.std.proofs.Common.{◌≡◌, ◌<◌, ◌+◌, ap, subst, List, length, get_or, arith}
 use Rattle.cert_lines.specs.View.{line}
 use Rattle.cert_lines.specs.declared.line.CertLine.{CertLine}
-use Rattle.line_faults.specs.Judges.{clause}
-use Rattle.clause_store.specs.Store.{clauses}
+use Rattle.cert_rules.specs.Judges.{clause}
+use Rattle.cert_store.specs.Store.{clauses}
 use Rattle.cert_checker.proofs.Checked.{at_most_one, refused_here, goes_on}
 use Rattle.cert_checker.proofs.checking.check_lines.Goals as goal
 

@@ -1,5 +1,5 @@
 use Rattle.std.proofs.Common.{◌≡◌}
-use Rattle.clause_store.specs.Store.{clauses}
+use Rattle.cert_store.specs.Store.{clauses}
 use Rattle.cert_checker.proofs.Checked.{Checked}
 use Rattle.cert_checker.proofs.checking.check_lines.Given as goal
 

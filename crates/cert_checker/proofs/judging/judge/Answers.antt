@@ -2,9 +2,9 @@ use Rattle.std.proofs.Common.{sym, subst}
 use Rattle.cert_lines.specs.View.{line}
 use Rattle.cert_lines.specs.declared.line.CertLine.{CertLine}
 use Rattle.cert_rules.specs.Rules.{judge}
-use Rattle.line_faults.specs.Judges.{Judges, clause}
-use Rattle.linear_lines.specs.Here.{context}
-use Rattle.clause_store.specs.Store.{clauses}
+use Rattle.cert_rules.specs.Judges.{Judges, clause}
+use Rattle.cert_linear.specs.Here.{context}
+use Rattle.cert_store.specs.Store.{clauses}
 use Rattle.cert_checker.proofs.judging.judge.Goals as goal
 
 pub returns-in-Lin : goal.returns-in-Lin

@@ -1,5 +1,5 @@
 use Rattle.logic_terms.specs.View.{formula}
-use Rattle.term_text.specs.Text.{node_text}
+use Rattle.logic_terms.specs.Text.{node_text}
 use Rattle.cert_reader.proofs.Leaves.{formula_space, formula_bad, formula_on, spaced_is}
 use Rattle.cert_reader.proofs.nodes.read_formula.Goals as goal
 

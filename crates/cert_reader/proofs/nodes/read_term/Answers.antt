@@ -1,5 +1,5 @@
 use Rattle.logic_terms.specs.View.{term}
-use Rattle.term_text.specs.Text.{node_text}
+use Rattle.logic_terms.specs.Text.{node_text}
 use Rattle.cert_reader.proofs.Leaves.{term_space, term_bad, term_on, spaced_is}
 use Rattle.cert_reader.proofs.nodes.read_term.Goals as goal
 

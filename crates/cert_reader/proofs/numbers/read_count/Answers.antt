@@ -1,5 +1,5 @@
 use Rattle.cert_reader.proofs.Leaves.{count_space, count_bad, count_on, spaced_is}
-use Rattle.term_text.specs.Text.{number_text}
+use Rattle.logic_terms.specs.Text.{number_text}
 use Rattle.cert_reader.proofs.numbers.read_count.Goals as goal
 
 pub returns-in-Err-clause-fault : goal.returns-in-Err-clause-fault

@@ -1,5 +1,5 @@
 use Rattle.cert_reader.proofs.Leaves.{index_space, index_bad, index_on, spaced_is}
-use Rattle.term_text.specs.Text.{number_text}
+use Rattle.logic_terms.specs.Text.{number_text}
 use Rattle.cert_reader.proofs.numbers.read_index.Goals as goal
 
 pub returns-in-Err-clause-fault : goal.returns-in-Err-clause-fault

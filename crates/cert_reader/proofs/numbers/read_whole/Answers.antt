@@ -1,5 +1,5 @@
 use Rattle.cert_reader.proofs.Leaves.{whole_space, whole_bad, whole_on, spaced_is}
-use Rattle.term_text.specs.Text.{whole_text}
+use Rattle.logic_terms.specs.Text.{whole_text}
 use Rattle.cert_reader.proofs.numbers.read_whole.Goals as goal
 
 pub returns-in-Err-clause-fault : goal.returns-in-Err-clause-fault

@@ -1,5 +1,5 @@
 use Rattle.std.proofs.Common.{◌≡◌, ◌-◌, ◌<◌, ◌≤◌, ◌++◌, length, drop}
-use Rattle.term_text.specs.Text.{number_text}
+use Rattle.logic_terms.specs.Text.{number_text}
 use Rattle.term_reader.proofs.number.read_digits.Given as goal
 
 abbrev pub invariant-loop-next : goal.invariant-loop-next

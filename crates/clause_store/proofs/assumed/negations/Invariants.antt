@@ -1,7 +1,0 @@
-use Rattle.std.proofs.Common.{take}
-use Rattle.clause_store.specs.Assumed.{assumes, Agrees}
-use Rattle.clause_store.proofs.Keys.{negations_of}
-use Rattle.clause_store.proofs.assumed.negations.Given as goal
-
-abbrev pub invariant-loop-p : goal.invariant-loop-p
-invariant-loop-p l = Agrees (assumes l.assumed) (negations_of (take l.p-index l.ps))

@@ -1,6 +1,0 @@
-use Rattle.linear_lines.specs.Here.{forms}
-use Rattle.linear_lines.proofs.Gathered.{Made, literals_all}
-use Rattle.linear_lines.proofs.forms.forms_of.Given as goal
-
-abbrev pub invariant-loop-p : goal.invariant-loop-p
-invariant-loop-p l = Made (literals_all l.goal l.fresh) l.literals l.p-index (forms l.forms)

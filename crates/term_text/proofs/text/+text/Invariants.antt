@@ -1,7 +1,0 @@
-use Rattle.std.proofs.Common.{◌≡◌, ◌++◌, drop}
-use Rattle.logic_terms.specs.View.{terms}
-use Rattle.term_text.specs.Text.{spaced_text}
-use Rattle.term_text.proofs.text.+text.Given as goal
-
-abbrev pub invariant-push_terms-loop-t : goal.invariant-push_terms-loop-t
-invariant-push_terms-loop-t l = l.fn.text.items ++ spaced_text (terms l.ts) ≡ l.text.items ++ spaced_text (terms (drop l.t-index l.t-items))
