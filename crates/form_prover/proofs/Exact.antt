@@ -22,7 +22,8 @@ use Rattle.first_form.specs.declared.form.Operand.{Operand}
 use Rattle.first_form.specs.declared.form.Operand.TheVariants.{Number, Name}
 use Rattle.form_prover.specs.declared.rows.Row.{Row}
 use Rattle.form_prover.specs.declared.verdicts.Verdict.{Verdict}
-use Rattle.form_prover.specs.Program.{integer, compared, assertions, procedure_of, program_of}
+use Rattle.ada_values.specs.Scalars.{integer}
+use Rattle.form_prover.specs.Program.{compared, assertions, procedure_of, program_of}
 use Rattle.form_prover.specs.Rows.{same_site, all_said, sites_of, rows_from, rows_with, one_worker}
 use Rattle.form_prover.specs.Formulas.{compared_node, condition_node, input_nodes, says, verdicts_on, all_proved, row_among}
 use Rattle.form_prover.proofs.Numbering.{says-numbered}

@@ -14,7 +14,7 @@ use Rattle.first_form.specs.declared.form.Operand.TheVariants.{Number, Name}
 use Rattle.first_form.specs.Places.{position_of}
 use Rattle.form_prover.specs.declared.rows.Row.{Row}
 use Rattle.form_prover.specs.declared.verdicts.Verdict.{Verdict}
-use Rattle.form_prover.specs.Program.{integer}
+use Rattle.ada_values.specs.Scalars.{integer}
 use Rattle.form_prover.specs.Given.{some_equals, some_false, computed, is_true}
 use Rattle.form_prover.specs.Rows.{same_site}
 

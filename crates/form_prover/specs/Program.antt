@@ -1,8 +1,8 @@
 -- The typed program that a file of the first form is.
-use Rattle.std.specs.Prelude.{ℕ, None, List, [], ◌∷◌, map, unwrap_or, pos, negsuc}
+use Rattle.std.specs.Prelude.{ℕ, None, List, [], ◌∷◌, map, unwrap_or, pos}
 use Rattle.ada_values.specs.Value as ada
 use Rattle.ada_values.specs.declared.place.Place.{Place}
-use Rattle.ada_values.specs.declared.scalars.Scalar.{Scalar}
+use Rattle.ada_values.specs.Scalars.{integer}
 use Rattle.ada_values.specs.declared.shapes.Shape.TheVariants as shape
 use Rattle.typed_units.specs.declared.programs.Mode.TheVariants as mode
 use Rattle.typed_units.specs.Syntax as text
@@ -13,10 +13,6 @@ use Rattle.first_form.specs.declared.form.Assertion.{Assertion}
 use Rattle.first_form.specs.declared.form.Operand.{Operand}
 use Rattle.first_form.specs.declared.form.Operand.TheVariants.{Number, Name}
 use Rattle.first_form.specs.Places.{position_of}
-
--- the subtype Integer (Ada RM 3.5.4)
-abbrev pub integer : Scalar
-integer = record { lo = negsuc 2147483647; hi = pos 2147483647; base_lo = negsuc 2147483647; base_hi = pos 2147483647; modulus = None }
 
 -- a number, or the parameter of that name
 abbrev pub operand : List (List ℕ) → Place → Operand → Ex
