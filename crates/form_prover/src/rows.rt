@@ -7,8 +7,8 @@ ghost use Rattle.form_prover.specs.Formulas.{all_proved, row_among};
 ghost use Rattle.form_prover.specs.Rows.{one_worker};
 
 use crate::verdicts::{Verdict, verdicts_of};
+use ada_values::Starved;
 use first_form::FirstForm;
-use logic_terms::Starved;
 use sqlite_items::Items;
 use std::alloc::Global;
 use typed_units::{SiteKey, same_site};

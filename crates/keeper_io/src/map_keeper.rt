@@ -105,8 +105,8 @@ impl Keeper for MapKeeper {
             self.get_faults = self.get_faults.saturating_add(1);
             return Err(KeepFault::Failed);
         }
-        match find_entry(self.entries.as_slice(), name) {
-            Some(entry) => Ok(Some(ByteList::from_slice(alloc, entry.bytes.as_slice())?)),
+        match self.bytes(name) {
+            Some(bytes) => Ok(Some(ByteList::from_slice(alloc, bytes)?)),
             None => Ok(None),
         }
     }
