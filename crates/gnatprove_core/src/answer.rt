@@ -16,11 +16,10 @@ use crate::texts::{error_text, no_file_text, read_fault_text, usage_text};
 use crate::words::file_of;
 use ada_text::{LexFault, line_col};
 use ada_tree::SourceUnit;
-use ada_values::{ByteList, NameText, WordList};
+use ada_values::{ByteList, NameText, Starved, WordList};
 use first_form::{FirstForm, FormFault, first_unknown, form_of};
 use grammar_table::SyntaxFault;
 use keeper_io::{KeepFault, Keeper};
-use logic_terms::Starved;
 use spark_reader::{ReadRefusal, place_of, read};
 use std::alloc::Global;
 
