@@ -39,16 +39,17 @@ not_there g c h e =
     let d : same_site g.site c ≡ true = ap (λ (s : SiteKey). same_site s c) e ∙ same_itself c in cc
 
 -- a site is that of a goal, or all goals of it are valid, as there are none
-goal_or_none : (gs : List SiteGoal) (c : SiteKey) → Contains (sites_in gs) c ⊎ ValidAt c gs
+abbrev GoalOrNone : List SiteGoal → SiteKey → Type 0
+GoalOrNone gs c = Contains (sites_in gs) c ⊎ ValidAt c gs
+
+first_or_later : (g : SiteGoal) (gs : List SiteGoal) (c : SiteKey) (b : Bool) → same_site g.site c ≡ b → GoalOrNone gs c → GoalOrNone (g ∷ gs) c
+first_or_later g gs c true h rest = inl (0, omega arith, same_is_equal g.site c h)
+first_or_later g gs c false h (inl w) = inl (later g.site c (sites_in gs) w)
+first_or_later g gs c false h (inr v) = inr ((λ e. absurd (not_there g c h e)), v)
+
+goal_or_none : (gs : List SiteGoal) (c : SiteKey) → GoalOrNone gs c
 goal_or_none [] c = inr tt
-goal_or_none (g ∷ gs) c = decide (same_site g.site c) refl
-  where
-    decide : (b : Bool) → same_site g.site c ≡ b → Contains (sites_in (g ∷ gs)) c ⊎ ValidAt c (g ∷ gs)
-    decide true h = inl (0, omega arith, same_is_equal g.site c h)
-    decide false h = elim (goal_or_none gs c) [
-      | inl w ↦ inl (later g.site c (sites_in gs) w)
-      | inr v ↦ inr ((λ e. absurd (not_there g c h e)), v)
-    ]
+goal_or_none (g ∷ gs) c = first_or_later g gs c (same_site g.site c) refl (goal_or_none gs c)
 
 -- the goals of assertions stand at their sites, in order
 sites_are : (ps : List (List ℕ)) (as' : List Assertion) (y : Way) → sites_in (goals_from [] y (tree_from ps as')) ≡ sites_of (assertions ps as')

@@ -9,7 +9,6 @@ pub fn proved_rows_hold()
 
 /// A site at which some run of the procedure fails first has a row, so no report leaves one out; and where all rows are
 /// proved, no run fails at all.
-#[tactic(auto, using(crate::proofs::Complete::failing_sites_have_rows, crate::proofs::Complete::all_proved_hold))]
 pub fn rows_are_complete()
     ensures failing { FailingSitesHaveRows }
     ensures all { AllProvedHold }
