@@ -10,7 +10,7 @@ use Rattle.ada_values.specs.Combine.{floor_mod}
 use Rattle.ada_values.specs.Division.{ModuloLaw, QuotientLaw}
 
 -- how a remainder q by suc n goes on at the next number, where it is r
-abbrev Turns : ℕ → ℕ → ℕ → Type 0
+abbrev pub Turns : ℕ → ℕ → ℕ → Type 0
 Turns q r n = ((r ≡ 0) × (q ≡ n)) ⊎ ((r ≡ suc q) × (q < n))
 
 turns_at : (q n : ℕ) → q < suc n → Turns q (suc q % suc n) n
@@ -20,7 +20,7 @@ turns_at q n h =
       | inr more ↦ (let same : q ≡ n = omega arith in inl (ap (λ k. suc k % suc n) same ∙ mod_self (suc n), same))
     ]
 
-turns : (x n : ℕ) → Turns (x % suc n) (suc x % suc n) n
+pub turns : (x n : ℕ) → Turns (x % suc n) (suc x % suc n) n
 turns x n = rw suc-mod (turns_at (x % suc n) n (mod_below x (suc n) (omega arith)))
 
 rises_by : (q r n : ℕ) → Turns q r n → neg_ℤ (pos r) <ℤ pos 0 → (neg_ℤ (pos r) +ℤ pos (suc n)) ≡ pos (suc n - 1 - q)

@@ -8,9 +8,8 @@ use Rattle.logic_terms.specs.Value.{Kind, numbers, truths, arrays, records, Kind
 use Rattle.logic_terms.specs.Meaning.{World, meaning, holds, item, stored, first, last, within, field, with_field}
 use Rattle.logic_terms.specs.Sorting.{Signature, IsWorldOf, HasKind, node_kind, is_of, are_of, length_of, nth_kind}
 use Rattle.logic_terms.specs.Arrays.{has_item, is_whole}
-use Rattle.logic_terms.proofs.Items.{item_other, item_outside, has_item_stored, no_item_stored}
+use Rattle.logic_terms.proofs.Items.{item_other, item_outside, has_item_stored, no_item_stored, nth_item}
 use Rattle.logic_terms.proofs.SameNodes.{same_int-is, same_bool-is}
-use Rattle.logic_terms.proofs.Alike.{nth_item}
 use Rattle.logic_terms.proofs.Sorted.{same_kind-is, meaning-has}
 use Rattle.cert_rules.specs.Clause.{equals}
 use Rattle.cert_rules.proofs.Equals.{same_value-refl}

@@ -6,26 +6,13 @@ use Rattle.std.proofs.lemmas.Nat.{mod_below}
 use Rattle.std.proofs.lemmas.Bool.{cases_lt, and_parts, eqb-true}
 use Rattle.std.proofs.lemmas.Int.{ints}
 use Rattle.std.proofs.Math.IntN.{zero-*ℤ, *ℤ_comm, pos-*ℤ-pos, negsuc-*ℤ-pos}
+use Rattle.ada_values.proofs.Division.{Turns, turns}
 use Rattle.logic_terms.specs.Value.{Value, as_number}
 use Rattle.logic_terms.specs.Meaning.{World, meaning}
 use Rattle.linear_forms.specs.Form.{Monomial, monomial, Form, monomials_value, form_value, floor, divides_all, greatest_to, divisor, divided, tightened, total}
 use Rattle.linear_forms.proofs.Integers.{add_mul, mul_assoc}
 
 -- ---- one division
-
--- how a remainder q by suc n goes on at the next number, where it is r
-abbrev Turns : ℕ → ℕ → ℕ → Type 0
-Turns q r n = ((r ≡ 0) × (q ≡ n)) ⊎ ((r ≡ suc q) × (q < n))
-
-turns_at : (q n : ℕ) → q < suc n → Turns q (suc q % suc n) n
-turns_at q n h =
-    elim (cases_lt q n) [
-      | inl less ↦ (let small : suc q < suc n = omega arith in inr (mod-eq_of_lt small, less))
-      | inr more ↦ (let same : q ≡ n = omega arith in inl (ap (λ k. suc k % suc n) same ∙ mod_self (suc n), same))
-    ]
-
-turns : (x n : ℕ) → Turns (x % suc n) (suc x % suc n) n
-turns x n = rw suc-mod (turns_at (x % suc n) n (mod_below x (suc n) (omega arith)))
 
 full : (q r n : ℕ) → Turns q r n → r ≡ 0 → q ≡ n
 full q r n (inl t) e = t.1

@@ -77,7 +77,7 @@ fn boxed_number(alloc: Global, n: i128) -> Result<Boxed<LinearForm>, Starved>
         constant: n,
         parts: Items::new(alloc),
     };
-    Ok(Boxed::new(alloc, number)?)
+    Boxed::new(alloc, number)
 }
 
 /// A term as a variable, behind a box.
@@ -85,7 +85,7 @@ fn boxed_number(alloc: Global, n: i128) -> Result<Boxed<LinearForm>, Starved>
 fn boxed_variable(alloc: Global, t: &Term) -> Result<Boxed<LinearForm>, Starved>
     ensures { IfOk result (λ f. linear f ≡ form (pos 0) (monomial (pos 1) (term t.now) ∷ [])) }
 {
-    Ok(Boxed::new(alloc, variable_form(alloc, t)?)?)
+    Boxed::new(alloc, variable_form(alloc, t)?)
 }
 
 /// A form plus a multiple of another, behind a box.

@@ -1,7 +1,7 @@
 //! Why a form is not made.
 
 use logic_terms::Starved;
-use std::alloc::{AllocError, AllocFailed};
+use std::alloc::AllocFailed;
 
 /// Why a form is not made.
 #[derive(Clone, Copy, Debug, PartialEq, Eq)]
@@ -19,17 +19,6 @@ impl From<Starved> for FormFault {
     ghost from_gives = { λ _ e. e ≡ fault.Starved };
 
     fn from(_error: Starved) -> FormFault {
-        FormFault::Starved
-    }
-}
-
-impl From<AllocError> for FormFault {
-    ghost use Rattle.std.specs.Prelude.{◌≡◌};
-    ghost use Rattle.linear_forms.specs.declared.fault.FormFault.TheVariants as fault;
-
-    ghost from_gives = { λ _ e. e ≡ fault.Starved };
-
-    fn from(_error: AllocError) -> FormFault {
         FormFault::Starved
     }
 }

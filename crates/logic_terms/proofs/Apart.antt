@@ -6,7 +6,7 @@ use Rattle.logic_terms.specs.Node.{Op1, bit, Op2, Op3, OpN, Quant, Node, num, fl
 use Rattle.logic_terms.specs.Text.{number_text, whole_text, flag_text, op1_text, op2_text, op3_text, opn_text, quant_text, node_text, spaced_text}
 use Rattle.logic_terms.proofs.Words.{Ends, split, same_head, same_tail}
 use Rattle.logic_terms.proofs.Numerals.{first_byte, IsDigitByte, number_first, number_front, number_word, whole_word, number_same, whole_same}
-use Rattle.logic_terms.proofs.Operators.{Operator, one, two, three, many, over, operator_text, operators_same}
+use Rattle.logic_terms.proofs.OperatorTexts.{Operator, one, two, three, many, over, operator_text, operators_same}
 
 -- ---- the first byte tells a leaf from a node with an operator
 

@@ -2,7 +2,7 @@
 use Rattle.std.proofs.Common.{◌≡◌, ◌≢◌, refl, sym, ◌∙◌, ap, subst, ℕ, zero, suc, ◌<◌, Bool, true, false, arith}
 use Rattle.std.proofs.lemmas.Bool.{and_parts, false≢true, eqb-true, eq-eqb}
 use Rattle.std.proofs.lemmas.Int.{ints}
-use Rattle.std.specs.Prelude.{ℤ, pos, negsuc, ◌-ℤ◌, ◌≤ℤ◌, int_le, ◌==◌, if◌then◌else◌}
+use Rattle.std.specs.Prelude.{ℤ, pos, negsuc, ◌+ℤ◌, ◌-ℤ◌, ◌≤ℤ◌, int_le, ◌==◌, if◌then◌else◌}
 use Rattle.logic_terms.specs.Value.{Kind, numbers, truths, arrays, records, Kinds, no_kinds, kind, kinds_of, defaults, Value, number, truth, array, record_of, Values, no_values, value, as_number, as_truth, kind_of, default, value_at, with_value, copies, count, up_to, steps}
 use Rattle.logic_terms.specs.Meaning.{item, stored, filled, first, last, within, field, with_field}
 use Rattle.logic_terms.specs.Sorting.{length_of}
@@ -168,3 +168,10 @@ whole_stored (array k f l vs) i v h = whole_chosen (count f l) (within f l i) vs
 whole_stored (number n) i v h = refl
 whole_stored (truth n) i v h = refl
 whole_stored (record_of n) i v h = refl
+
+-- the item that stands n after the first
+pub nth_steps : (f : ℤ) (n : ℕ) → steps (f +ℤ pos n -ℤ f) ≡ n
+nth_steps f n = let e : f +ℤ pos n -ℤ f ≡ pos n = omega (arith, ints) in ap steps e
+
+pub nth_item : (k : Kind) (f l : ℤ) (vs : Values) (n : ℕ) → within f l (f +ℤ pos n) ≡ true → item (array k f l vs) (f +ℤ pos n) ≡ value_at vs n (default k)
+nth_item k f l vs n h = rw h (ap (λ j. value_at vs j (default k)) (nth_steps f n))

@@ -25,6 +25,12 @@ terms_put_more items xs new i a x t d h is before e more =
     let read : take (i + 1) items ≡ take i items ++ a ∷ [] = take_more items i a h ∙ ap (λ y. take i items ++ y ∷ []) (sym is) in
     rw (more, terms-push xs x, before, e, read, terms-push (take i items) a) (sym (puts-then t d _ _))
 
+-- a loop that copies some terms
+pub terms_copy_more : (items xs new : List Term) (i : ℕ) (a x : Term) → i < length items → a ≡ get_or items i a → terms xs ≡ terms (take i items) → term x ≡ term a → new ≡ xs ++ x ∷ [] → terms new ≡ terms (take (i + 1) items)
+terms_copy_more items xs new i a x h is before e more =
+    let read : take (i + 1) items ≡ take i items ++ a ∷ [] = take_more items i a h ∙ ap (λ y. take i items ++ y ∷ []) (sym is) in
+    rw (more, terms-push xs x, before, e, read, terms-push (take i items) a) refl
+
 -- the terms from i on
 pub terms_drop : (ts : List Term) (i : ℕ) (t : Term) → i < length ts → t ≡ get_or ts i t → terms (drop i ts) ≡ node (term t) (terms (drop (i + 1) ts))
 terms_drop [] i t h is = absurd (omega arith)

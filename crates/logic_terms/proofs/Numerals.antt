@@ -140,9 +140,6 @@ pub signed_is : (z : ℤ) → FitsSigned w128 z → signed_decimal z ≡ whole_t
 signed_is (pos n) h = decimal_is n (grind (arith, ints))
 signed_is (negsuc n) h = ap (λ (xs : List ℕ). 45 ∷ xs) (decimal_is (suc n) (grind (arith, ints)))
 
-pub number_is : (n : ℕ) → n < 2 ^ 32 → decimal n ≡ number_text n
-number_is n h = decimal_is n (omega arith)
-
 pub whole_same : (y z : ℤ) → whole_text y ≡ whole_text z → y ≡ z
 whole_same (pos m) (pos n) e = ap pos (number_same m n e)
 whole_same (negsuc m) (negsuc n) e =

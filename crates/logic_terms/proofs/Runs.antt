@@ -4,8 +4,7 @@ use Rattle.std.specs.Prelude.{ℤ, pos, ◌+ℤ◌, ◌==◌, if◌then◌else�
 use Rattle.logic_terms.specs.Node.{Op2, arith as compute_by, conj, disj, ite, fields, call, Quant, all, any, Node, num, flag, sym as symbol, bound, op1, op2, op3, opn, quant, Nodes, no_nodes, node}
 use Rattle.logic_terms.specs.Value.{Value, number, truth, as_truth}
 use Rattle.logic_terms.specs.Meaning.{World, meaning, meanings, apply2, ranged}
-use Rattle.logic_terms.specs.Run.{Outcome, gives, wide, too_long, and_then, visit, decides, finish, run_over, parts, run, run_all}
-use Rattle.logic_terms.specs.Found.{Gives}
+use Rattle.logic_terms.specs.Run.{Outcome, gives, wide, too_long, and_then, visit, decides, finish, run_over, parts, run, run_all, Gives}
 
 -- an outcome that is a value is this one
 abbrev pub Agrees : {A : Type 0} → Outcome A → A → Type 0

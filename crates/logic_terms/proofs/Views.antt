@@ -1,6 +1,7 @@
 -- No two terms or formulas are one node.
 use Rattle.std.proofs.Common.{◌≡◌, refl, sym, ◌∙◌, ap, ap₂, subst, Bool, true, false, List, [], ◌∷◌, map, IsTrue, ◌↔◌}
-use Rattle.std.specs.Prelude.{pos}
+use Rattle.std.specs.Prelude.{pos, Result, IfOk}
+use Rattle.std.proofs.lemmas.Result.{IfOk-weaker}
 use Rattle.logic_terms.specs.Node.{add, sub, mul, quo, rem, mod_by, pow, bit, tru, neg, fst, lst, fld, arith, le, eq, conj, disj, iff, sel, upd, ite, sto, fill, fields, call, all, any, Node, num, flag, sym as symbol, bound, op1, op2, op3, opn, quant, Nodes, no_nodes, node}
 use Rattle.logic_terms.specs.View.{term, formula, term_step, formula_step, nodes_of}
 use Rattle.logic_terms.specs.Same.{same_node}
@@ -132,14 +133,16 @@ formula_injective p q e = sym (formula_came p) ∙ ap formula_back e ∙ formula
 pub term_injective : (x y : Term) → term x ≡ term y → x ≡ y
 term_injective x y e = sym (term_came x) ∙ ap term_back e ∙ term_came y
 
-bools : (r b : Bool) → (r ≡ true → b ≡ true) → (b ≡ true → r ≡ true) → r ≡ b
-bools true b f g = sym (f refl)
-bools false true f g = g refl
-bools false false f g = refl
+-- two formulas are one where their nodes are
+pub same_formulas : (r : Bool) (p q : Formula) → r ≡ same_node (formula p) (formula q) → IsTrue r ↔ (p ≡ q)
+same_formulas r p q h = ((λ e. formula_injective p q (same_node-is _ _ (sym h ∙ e))), (λ e. h ∙ subst (λ x. same_node (formula p) (formula x) ≡ true) e (same_node-refl (formula p))))
 
--- a test of formulas is one of their nodes
-pub same_formulas : (r : Bool) (p q : Formula) → (IsTrue r ↔ (p ≡ q)) → r ≡ same_node (formula p) (formula q)
-same_formulas r p q h = bools r _ (λ e. subst (λ x. same_node (formula p) (formula x) ≡ true) (h.0 e) (same_node-refl (formula p))) (λ e. h.1 (formula_injective p q (same_node-is _ _ e)))
+pub same_terms : (r : Bool) (x y : Term) → r ≡ same_node (term x) (term y) → IsTrue r ↔ (x ≡ y)
+same_terms r x y h = ((λ e. term_injective x y (same_node-is _ _ (sym h ∙ e))), (λ e. h ∙ subst (λ z. same_node (term x) (term z) ≡ true) e (same_node-refl (term x))))
 
-pub same_terms : (r : Bool) (x y : Term) → (IsTrue r ↔ (x ≡ y)) → r ≡ same_node (term x) (term y)
-same_terms r x y h = bools r _ (λ e. subst (λ z. same_node (term x) (term z) ≡ true) (h.0 e) (same_node-refl (term x))) (λ e. h.1 (term_injective x y (same_node-is _ _ e)))
+-- what is the node of a formula or of a term, where there is any, is it
+pub only_formula : {E : Type 0} (r : Result Formula E) (p : Formula) → IfOk r (λ x. formula x ≡ formula p) → IfOk r (λ x. x ≡ p)
+only_formula r p h = IfOk-weaker r (λ x. formula x ≡ formula p) (λ x. x ≡ p) (λ x e. formula_injective x p e) h
+
+pub only_term : {E : Type 0} (r : Result Term E) (t : Term) → IfOk r (λ x. term x ≡ term t) → IfOk r (λ x. x ≡ t)
+only_term r t h = IfOk-weaker r (λ x. term x ≡ term t) (λ x. x ≡ t) (λ x e. term_injective x t e) h

@@ -10,10 +10,10 @@ pub mod Goal
 pub mod Goals
 pub mod Same
 pub mod Run
-pub mod Found
 pub mod Names
 pub mod Arrays
-pub mod Places
-pub mod Size
 pub mod Levels
 pub mod Text
+pub mod Operators
+pub mod Parts
+pub mod Weight

@@ -1,5 +1,5 @@
 -- The truth of a closed formula, found node by node, with numbers of 128 bits and a budget of nodes.
-use Rattle.std.specs.Prelude.{ℕ, zero, suc, ◌-◌, ◌^◌, ◌==◌, Bool, true, false, not, nat_lt, if◌then◌else◌, ℤ, pos, negsuc, ◌+ℤ◌, List, ◌∷◌}
+use Rattle.std.specs.Prelude.{◌≡◌, ℕ, zero, suc, ◌-◌, ◌^◌, ◌==◌, Bool, true, false, not, nat_lt, if◌then◌else◌, ℤ, pos, negsuc, ◌+ℤ◌, List, ◌∷◌}
 use Rattle.logic_terms.specs.Node.{Op1, Op2, arith, conj, disj, Op3, ite, fields, call, Quant, all, any, Node, num, flag, sym, bound, op1, op2, op3, opn, quant, Nodes, no_nodes, node}
 use Rattle.logic_terms.specs.Value.{Value, number, truth, record_of, Values, no_values, value, as_number, as_truth, count}
 use Rattle.logic_terms.specs.Meaning.{compute, apply1, apply2, apply3, bound_at}
@@ -9,6 +9,11 @@ pub data Outcome (A : Type 0) : Type 0 where
   gives : A → ℕ → Outcome A
   wide : Outcome A
   too_long : Outcome A
+
+-- the run gives this value
+abbrev pub Gives : Outcome Value → Value → Type 0
+Gives (gives a n) v = a ≡ v
+Gives _ v = ⊥
 
 abbrev pub and_then : {A B : Type 0} → Outcome A → (A → ℕ → Outcome B) → Outcome B
 and_then (gives a n) f = f a n

@@ -6,6 +6,7 @@ ghost use Rattle.logic_terms.specs.Levels.{levels, levels_of};
 ghost use Rattle.logic_terms.specs.Names.{is_constant as constant};
 
 use crate::names::names_nothing;
+use crate::parts::{FormulaParts, TermParts, formula_parts, term_parts};
 use crate::syntax::{Formula, Term, TermList};
 
 #[cycle(levels)]
@@ -24,27 +25,15 @@ fn terms_levels(ts: &TermList) -> u64
 fn term_levels(t: &Term) -> u64
     ensures { result ≡ levels (term t.now) }
 {
-    match t {
-        Term::Num(_) | Term::Sym(_) => 0,
-        Term::Bound(k) => u64::from(*k) + 1,
-        Term::Add(a, b)
-        | Term::Sub(a, b)
-        | Term::Mul(a, b)
-        | Term::Quo(a, b)
-        | Term::Rem(a, b)
-        | Term::Mod(a, b)
-        | Term::Pow(a, b)
-        | Term::Sel(a, b)
-        | Term::Upd(_, a, b) => term_levels(a.get()).max(term_levels(b.get())),
-        Term::Bit(p) => formula_levels(p.get()),
-        Term::Ite(p, a, b) => {
-            formula_levels(p.get()).max(term_levels(a.get()).max(term_levels(b.get())))
-        }
-        Term::Sto(a, i, v) | Term::Fill(a, i, v) => {
-            term_levels(a.get()).max(term_levels(i.get()).max(term_levels(v.get())))
-        }
-        Term::Fst(a) | Term::Lst(a) | Term::Fld(_, a) => term_levels(a.get()),
-        Term::Rec(ts) | Term::Call(_, ts) => terms_levels(ts),
+    match term_parts(t) {
+        TermParts::Number(_) | TermParts::Symbol(_) => 0,
+        TermParts::Bound(k) => u64::from(k) + 1,
+        TermParts::Bit(p) => formula_levels(p),
+        TermParts::Choice(p, a, b) => { formula_levels(p).max(term_levels(a).max(term_levels(b))) }
+        TermParts::One(_, a) => term_levels(a),
+        TermParts::Two(_, a, b) => term_levels(a).max(term_levels(b)),
+        TermParts::Three(_, a, b, c) => term_levels(a).max(term_levels(b).max(term_levels(c))),
+        TermParts::List(_, ts) => terms_levels(ts),
     }
 }
 
@@ -53,17 +42,15 @@ fn term_levels(t: &Term) -> u64
 fn formula_levels(p: &Formula) -> u64
     ensures { result ≡ levels (formula p.now) }
 {
-    match p {
-        Formula::True | Formula::False => 0,
-        Formula::Tru(t) => term_levels(t.get()),
-        Formula::Le(a, b) | Formula::Eq(a, b) => term_levels(a.get()).max(term_levels(b.get())),
-        Formula::Not(p) => formula_levels(p.get()),
-        Formula::And(p, q) | Formula::Or(p, q) | Formula::Iff(p, q) => {
-            formula_levels(p.get()).max(formula_levels(q.get()))
+    match formula_parts(p) {
+        FormulaParts::Constant(_) => 0,
+        FormulaParts::Truth(t) => term_levels(t),
+        FormulaParts::Compared(_, a, b) => term_levels(a).max(term_levels(b)),
+        FormulaParts::Not(p) => formula_levels(p),
+        FormulaParts::Joined(_, p, q) => formula_levels(p).max(formula_levels(q)),
+        FormulaParts::Quantified(_, first, last, p) => {
+            term_levels(first).max(term_levels(last).max(formula_levels(p).saturating_sub(1)))
         }
-        Formula::All(first, last, p) | Formula::Any(first, last, p) => term_levels(first.get()).max(
-            term_levels(last.get()).max(formula_levels(p.get()).saturating_sub(1)),
-        ),
     }
 }
 

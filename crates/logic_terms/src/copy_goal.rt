@@ -2,9 +2,9 @@
 
 ghost use Rattle.std.specs.Prelude.{◌≡◌, IfOk};
 
+use crate::Starved;
 use crate::goal::{Call, CallList, Goal, Symbol, SymbolList};
 use crate::sort::{Sort, SortList};
-use crate::starved::Starved;
 use crate::syntax::FormulaList;
 use sqlite_items::{Boxed, Items};
 use std::alloc::Global;

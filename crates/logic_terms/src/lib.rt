@@ -1,30 +1,22 @@
 //! Terms, formulas and goals of the proof, with their truth.
 #![tactic(auto)]
 
-mod arithmetic;
-mod arrays;
 mod constant;
 mod copy;
 mod copy_goal;
 mod equality;
-mod evaluator;
-mod forms;
-mod found;
 mod goal;
 mod injective;
-mod kinds;
 mod laws;
 mod model;
 mod names;
 mod nesting;
 mod operators;
-mod places;
+mod parts;
 mod put;
 mod same;
-mod same_found;
 mod same_sorts;
 mod sort;
-mod starved;
 mod syntax;
 mod text;
 mod text_laws;
@@ -32,8 +24,6 @@ mod text_laws;
 pub use constant::is_constant;
 pub use copy_goal::copy_formulas;
 pub use equality::{same_formula, same_sort, same_term};
-pub use evaluator::truth;
-pub use found::TruthFault;
 pub use goal::{Call, CallList, Goal, Role, Symbol, SymbolList};
 pub use injective::views_are_injective;
 pub use laws::{laws_of_arithmetic, laws_of_formulas, laws_of_terms};
@@ -43,9 +33,16 @@ pub use model::{
 };
 pub use names::names_nothing;
 pub use nesting::MOST_LEVELS;
+pub use operators::{
+    Arithmetic, BinaryOperator, Comparison, Connective, ListOperator, Quantifier, TernaryOperator,
+    UnaryOperator, binary_term, compared, joined, list_term, quantified, ternary_term, unary_term,
+};
+pub use parts::{FormulaParts, TermParts, formula_parts, term_parts};
 pub use put::{negate, put_in};
 pub use sort::{Sort, SortList};
-pub use starved::Starved;
+pub use std::alloc::AllocError as Starved;
 pub use syntax::{Formula, FormulaList, Term, TermList};
-pub use text::{precedes, text_of};
+pub use text::{
+    precedes, push_formula, push_number, push_spaced_formula, push_spaced_term, push_whole, text_of,
+};
 pub use text_laws::{laws_of_text_order, texts_are_injective};

@@ -4,6 +4,8 @@ ghost use Rattle.std.specs.Prelude.{◌≡◌};
 ghost use Rattle.logic_terms.specs.View.{term, formula, terms};
 ghost use Rattle.logic_terms.specs.Names.{names_nothing as no_name, name_nothing as no_names};
 
+use crate::operators::ListOperator;
+use crate::parts::{FormulaParts, TermParts, formula_parts, term_parts};
 use crate::syntax::{Formula, Term, TermList};
 
 #[cycle(names)]
@@ -22,27 +24,20 @@ fn terms_name_nothing(ts: &TermList) -> bool
 fn term_names_nothing(t: &Term) -> bool
     ensures { result ≡ no_name (term t.now) }
 {
-    match t {
-        Term::Num(_) | Term::Bound(_) => true,
-        Term::Sym(_) | Term::Call(_, _) => false,
-        Term::Add(a, b)
-        | Term::Sub(a, b)
-        | Term::Mul(a, b)
-        | Term::Quo(a, b)
-        | Term::Rem(a, b)
-        | Term::Mod(a, b)
-        | Term::Pow(a, b)
-        | Term::Sel(a, b)
-        | Term::Upd(_, a, b) => term_names_nothing(a.get()) && term_names_nothing(b.get()),
-        Term::Bit(p) => names_nothing(p.get()),
-        Term::Ite(p, a, b) => names_nothing(p.get())
-            && term_names_nothing(a.get())
-            && term_names_nothing(b.get()),
-        Term::Sto(a, i, v) | Term::Fill(a, i, v) => term_names_nothing(a.get())
-            && term_names_nothing(i.get())
-            && term_names_nothing(v.get()),
-        Term::Fst(a) | Term::Lst(a) | Term::Fld(_, a) => term_names_nothing(a.get()),
-        Term::Rec(ts) => terms_name_nothing(ts),
+    match term_parts(t) {
+        TermParts::Number(_) | TermParts::Bound(_) => true,
+        TermParts::Symbol(_) => false,
+        TermParts::Bit(p) => names_nothing(p),
+        TermParts::Choice(p, a, b) => {
+            names_nothing(p) && term_names_nothing(a) && term_names_nothing(b)
+        }
+        TermParts::One(_, a) => term_names_nothing(a),
+        TermParts::Two(_, a, b) => term_names_nothing(a) && term_names_nothing(b),
+        TermParts::Three(_, a, b, c) => {
+            term_names_nothing(a) && term_names_nothing(b) && term_names_nothing(c)
+        }
+        TermParts::List(ListOperator::Record, ts) => terms_name_nothing(ts),
+        TermParts::List(ListOperator::Call(_), _) => false,
     }
 }
 
@@ -51,20 +46,14 @@ fn term_names_nothing(t: &Term) -> bool
 pub fn names_nothing(p: &Formula) -> bool
     ensures { result ≡ no_name (formula p.now) }
 {
-    match p {
-        Formula::True | Formula::False => true,
-        Formula::Tru(t) => term_names_nothing(t.get()),
-        Formula::Le(a, b) | Formula::Eq(a, b) => {
-            term_names_nothing(a.get()) && term_names_nothing(b.get())
-        }
-        Formula::Not(p) => names_nothing(p.get()),
-        Formula::And(p, q) | Formula::Or(p, q) | Formula::Iff(p, q) => {
-            names_nothing(p.get()) && names_nothing(q.get())
-        }
-        Formula::All(first, last, p) | Formula::Any(first, last, p) => {
-            term_names_nothing(first.get())
-                && term_names_nothing(last.get())
-                && names_nothing(p.get())
+    match formula_parts(p) {
+        FormulaParts::Constant(_) => true,
+        FormulaParts::Truth(t) => term_names_nothing(t),
+        FormulaParts::Compared(_, a, b) => term_names_nothing(a) && term_names_nothing(b),
+        FormulaParts::Not(p) => names_nothing(p),
+        FormulaParts::Joined(_, p, q) => names_nothing(p) && names_nothing(q),
+        FormulaParts::Quantified(_, first, last, p) => {
+            term_names_nothing(first) && term_names_nothing(last) && names_nothing(p)
         }
     }
 }

@@ -2,7 +2,7 @@
 
 ghost use Rattle.std.specs.Prelude.{◌≡◌, IfOk, suc};
 
-use crate::starved::Starved;
+use crate::Starved;
 
 /// How many levels of brackets a value may nest. `(not (not T))` has two, and the brackets of a list are one.
 ///

@@ -1,137 +1,157 @@
-//! Operators on computed values.
+//! The operators of terms and formulas.
 
 ghost use Rattle.std.specs.Prelude.{◌≡◌};
-ghost use Rattle.logic_terms.specs.Meaning.{apply1, apply3, compute as compute_by};
-ghost use Rattle.logic_terms.specs.Run.{checked, finish, gives};
-ghost use Rattle.logic_terms.specs.View.{term};
-ghost use Rattle.logic_terms.specs.Found.{Finds, arith_of, binary_in, binary_of, found, option_outcome, ternary_in, ternary_of, unary_in, unary_of};
+ghost use Rattle.logic_terms.specs.Node.{op1, op2, op3, opn, quant};
+ghost use Rattle.logic_terms.specs.Operators.{binary_of, comparison_of, connective_of, list_of, quantifier_of, ternary_of, unary_of};
+ghost use Rattle.logic_terms.specs.View.{formula, term, terms};
 
-use crate::arithmetic::calculate;
-use crate::arrays::{field, fill, first_of, into_number, last_of, select, store, with_field};
-use crate::found::{Arithmetic, Found, TruthFault};
-use crate::syntax::Term;
-use std::alloc::Global;
+use crate::syntax::{Formula, Term, TermList};
+use sqlite_items::Boxed;
 
-/// An operator of arrays or records with one operand.
-#[derive(Clone, Copy, Debug, PartialEq, Eq)]
-pub enum Unary {
+/// An operation on two numbers.
+#[derive(Clone, Copy)]
+pub enum Arithmetic {
+    Add,
+    Sub,
+    Mul,
+    Quo,
+    Rem,
+    Mod,
+    Pow,
+}
+
+/// An operator of terms with one operand, a term.
+#[derive(Clone, Copy)]
+pub enum UnaryOperator {
     First,
     Last,
     Field(u32),
 }
 
-/// An operator with two operands.
-#[derive(Clone, Copy, Debug, PartialEq, Eq)]
-pub enum Binary {
+/// An operator of terms with two operands, which are terms.
+#[derive(Clone, Copy)]
+pub enum BinaryOperator {
     Compute(Arithmetic),
     Select,
     Update(u32),
 }
 
-/// An operator with three operands.
-#[derive(Clone, Copy, Debug, PartialEq, Eq)]
-pub enum Ternary {
+/// An operator of terms with three operands, which are terms.
+#[derive(Clone, Copy)]
+pub enum TernaryOperator {
     Store,
     Fill,
 }
 
-/// A number, if it fits.
-fn narrow(number: Option<i128>, left: u32) -> Result<(Found, u32), TruthFault>
-    ensures { Finds found (option_outcome number left) result }
-{
-    match number {
-        Some(n) => Ok((Found::Num(n), left)),
-        None => Err(TruthFault::Wide),
-    }
+/// An operator of terms with a list of operands.
+#[derive(Clone, Copy)]
+pub enum ListOperator {
+    Record,
+    Call(u32),
 }
 
-/// The value of an operation on numbers.
-#[tactic(auto, using(crate::proofs::Checked::checked_option))]
-fn compute(op: Arithmetic, a: i128, b: i128, left: u32) -> Result<(Found, u32), TruthFault>
-    ensures { Finds found (checked (compute_by (arith_of op) a b) left) result }
-{
-    narrow(calculate(op, a, b), left)
+/// What a formula says of two terms.
+#[derive(Clone, Copy)]
+pub enum Comparison {
+    AtMost,
+    Equal,
 }
 
-/// The value of an operator with two operands, and what is left of the budget.
-pub fn apply_binary(
-    alloc: Global,
-    op: Binary,
-    x: Found,
-    y: Found,
-    left: u32,
-) -> Result<(Found, u32), TruthFault>
-    ensures { Finds found (finish (binary_of op) (found x) (found y) left) result }
+/// What joins two formulas.
+#[derive(Clone, Copy)]
+pub enum Connective {
+    And,
+    Or,
+    Iff,
+}
+
+/// How a quantifier binds its variable.
+#[derive(Clone, Copy)]
+pub enum Quantifier {
+    All,
+    Any,
+}
+
+/// The term with one operand.
+pub fn unary_term(op: UnaryOperator, a: Boxed<Term>) -> Term
+    ensures { term result ≡ op1 (unary_of op) (term a) }
 {
     match op {
-        Binary::Compute(op) => compute(op, into_number(x), into_number(y), left),
-        Binary::Select => Ok((select(alloc, x, into_number(y))?, left)),
-        Binary::Update(k) => Ok((with_field(alloc, k, x, y)?, left)),
+        UnaryOperator::First => Term::Fst(a),
+        UnaryOperator::Last => Term::Lst(a),
+        UnaryOperator::Field(k) => Term::Fld(k, a),
     }
 }
 
-/// The value of an operator with three operands, and what is left of the budget.
-pub fn apply_ternary(
-    alloc: Global,
-    op: Ternary,
-    x: Found,
-    y: Found,
-    z: Found,
-    left: u32,
-) -> Result<(Found, u32), TruthFault>
-    ensures { Finds found (gives (apply3 (ternary_of op) (found x) (found y) (found z)) left) result }
+/// The term with two operands.
+pub fn binary_term(op: BinaryOperator, a: Boxed<Term>, b: Boxed<Term>) -> Term
+    ensures { term result ≡ op2 (binary_of op) (term a) (term b) }
 {
     match op {
-        Ternary::Store => Ok((store(alloc, x, into_number(y), z)?, left)),
-        Ternary::Fill => Ok((fill(alloc, into_number(x), into_number(y), z)?, left)),
+        BinaryOperator::Compute(Arithmetic::Add) => Term::Add(a, b),
+        BinaryOperator::Compute(Arithmetic::Sub) => Term::Sub(a, b),
+        BinaryOperator::Compute(Arithmetic::Mul) => Term::Mul(a, b),
+        BinaryOperator::Compute(Arithmetic::Quo) => Term::Quo(a, b),
+        BinaryOperator::Compute(Arithmetic::Rem) => Term::Rem(a, b),
+        BinaryOperator::Compute(Arithmetic::Mod) => Term::Mod(a, b),
+        BinaryOperator::Compute(Arithmetic::Pow) => Term::Pow(a, b),
+        BinaryOperator::Select => Term::Sel(a, b),
+        BinaryOperator::Update(k) => Term::Upd(k, a, b),
     }
 }
 
-/// The value of an operator with one operand.
-pub fn apply_unary(op: Unary, x: Found) -> Found
-    ensures { found result ≡ apply1 (unary_of op) (found x) }
+/// The term with three operands.
+pub fn ternary_term(op: TernaryOperator, a: Boxed<Term>, b: Boxed<Term>, c: Boxed<Term>) -> Term
+    ensures { term result ≡ op3 (ternary_of op) (term a) (term b) (term c) }
 {
     match op {
-        Unary::First => Found::Num(first_of(&x)),
-        Unary::Last => Found::Num(last_of(&x)),
-        Unary::Field(k) => field(k, x),
+        TernaryOperator::Store => Term::Sto(a, b, c),
+        TernaryOperator::Fill => Term::Fill(a, b, c),
     }
 }
 
-/// The operator of a term with one operand.
-pub fn unary_operator(t: &Term) -> Unary
-    ensures { unary_of result ≡ unary_in (term t.now) }
+/// The term with a list of operands.
+pub fn list_term(op: ListOperator, ts: TermList) -> Term
+    ensures { term result ≡ opn (list_of op) (terms ts) }
 {
-    match t {
-        Term::Fst(_) => Unary::First,
-        Term::Fld(k, _) => Unary::Field(*k),
-        _ => Unary::Last,
+    match op {
+        ListOperator::Record => Term::Rec(ts),
+        ListOperator::Call(k) => Term::Call(k, ts),
     }
 }
 
-/// The operator of a term with two operands.
-pub fn binary_operator(t: &Term) -> Binary
-    ensures { binary_of result ≡ binary_in (term t.now) }
+/// The formula on two terms.
+pub fn compared(op: Comparison, a: Boxed<Term>, b: Boxed<Term>) -> Formula
+    ensures { formula result ≡ op2 (comparison_of op) (term a) (term b) }
 {
-    match t {
-        Term::Add(_, _) => Binary::Compute(Arithmetic::Add),
-        Term::Sub(_, _) => Binary::Compute(Arithmetic::Sub),
-        Term::Mul(_, _) => Binary::Compute(Arithmetic::Mul),
-        Term::Quo(_, _) => Binary::Compute(Arithmetic::Quo),
-        Term::Rem(_, _) => Binary::Compute(Arithmetic::Rem),
-        Term::Mod(_, _) => Binary::Compute(Arithmetic::Mod),
-        Term::Pow(_, _) => Binary::Compute(Arithmetic::Pow),
-        Term::Upd(k, _, _) => Binary::Update(*k),
-        _ => Binary::Select,
+    match op {
+        Comparison::AtMost => Formula::Le(a, b),
+        Comparison::Equal => Formula::Eq(a, b),
     }
 }
 
-/// The operator of a term with three operands.
-pub fn ternary_operator(t: &Term) -> Ternary
-    ensures { ternary_of result ≡ ternary_in (term t.now) }
+/// The formula that joins two.
+pub fn joined(op: Connective, p: Boxed<Formula>, q: Boxed<Formula>) -> Formula
+    ensures { formula result ≡ op2 (connective_of op) (formula p) (formula q) }
 {
-    match t {
-        Term::Sto(_, _, _) => Ternary::Store,
-        _ => Ternary::Fill,
+    match op {
+        Connective::And => Formula::And(p, q),
+        Connective::Or => Formula::Or(p, q),
+        Connective::Iff => Formula::Iff(p, q),
+    }
+}
+
+/// The formula with a quantifier: from `first` to `last`.
+pub fn quantified(
+    op: Quantifier,
+    first: Boxed<Term>,
+    last: Boxed<Term>,
+    body: Boxed<Formula>,
+) -> Formula
+    ensures { formula result ≡ quant (quantifier_of op) (term first) (term last) (formula body) }
+{
+    match op {
+        Quantifier::All => Formula::All(first, last, body),
+        Quantifier::Any => Formula::Any(first, last, body),
     }
 }

@@ -4,9 +4,13 @@ ghost use Rattle.std.specs.Prelude.{◌≡◌, IfOk, suc};
 ghost use Rattle.logic_terms.specs.View.{term, formula, terms};
 ghost use Rattle.logic_terms.specs.Binding.{negated, put, puts};
 
+use crate::Starved;
 use crate::copy::{copy_formula, copy_term, push_term};
 use crate::nesting::{MOST_LEVELS, below};
-use crate::starved::Starved;
+use crate::operators::{
+    binary_term, compared, joined, list_term, quantified, ternary_term, unary_term,
+};
+use crate::parts::{FormulaParts, TermParts, formula_parts, term_parts};
 use crate::syntax::{Formula, Term, TermList};
 use sqlite_items::{Boxed, Items};
 use std::alloc::Global;
@@ -35,24 +39,24 @@ struct Putting<'a> {
 
 impl<'a> Putting<'a> {
     #[cycle(put)]
-    fn term_in(&self, a: &Boxed<Term>, left: u32) -> Result<Boxed<Term>, Starved>
+    fn term_in(&self, a: &Term, left: u32) -> Result<Boxed<Term>, Starved>
         ensures { IfOk result (λ r. term r ≡ put (term self.now.replacement.now) self.now.variable (term a.now)) }
     {
-        let changed = self.term(a.get(), below(left)?)?;
-        Ok(Boxed::new(self.alloc, changed)?)
+        let changed = self.term(a, below(left)?)?;
+        Boxed::new(self.alloc, changed)
     }
 
     #[cycle(put)]
-    fn formula_in(&self, p: &Boxed<Formula>, left: u32) -> Result<Boxed<Formula>, Starved>
+    fn formula_in(&self, p: &Formula, left: u32) -> Result<Boxed<Formula>, Starved>
         ensures { IfOk result (λ r. formula r ≡ put (term self.now.replacement.now) self.now.variable (formula p.now)) }
     {
-        let changed = self.formula(p.get(), below(left)?)?;
-        Ok(Boxed::new(self.alloc, changed)?)
+        let changed = self.formula(p, below(left)?)?;
+        Boxed::new(self.alloc, changed)
     }
 
     /// Under a quantifier, where the variable's number is one more. That many quantifiers would have that many levels.
     #[cycle(put)]
-    fn body(&self, p: &Boxed<Formula>, left: u32) -> Result<Boxed<Formula>, Starved>
+    fn body(&self, p: &Formula, left: u32) -> Result<Boxed<Formula>, Starved>
         ensures { IfOk result (λ r. formula r ≡ put (term self.now.replacement.now) (suc self.now.variable) (formula p.now)) }
     {
         if self.variable >= MOST_LEVELS {
@@ -83,46 +87,35 @@ impl<'a> Putting<'a> {
     fn term(&self, a: &Term, left: u32) -> Result<Term, Starved>
         ensures { IfOk result (λ r. term r ≡ put (term self.now.replacement.now) self.now.variable (term a.now)) }
     {
-        match a {
-            Term::Num(n) => Ok(Term::Num(*n)),
-            Term::Sym(k) => Ok(Term::Sym(*k)),
-            Term::Bound(k) => {
-                if *k == self.variable {
+        match term_parts(a) {
+            TermParts::Number(n) => Ok(Term::Num(n)),
+            TermParts::Symbol(k) => Ok(Term::Sym(k)),
+            TermParts::Bound(k) => {
+                if k == self.variable {
                     copy_term(self.alloc, self.replacement, left)
                 } else {
-                    Ok(Term::Bound(*k))
+                    Ok(Term::Bound(k))
                 }
             }
-            Term::Add(a, b) => Ok(Term::Add(self.term_in(a, left)?, self.term_in(b, left)?)),
-            Term::Sub(a, b) => Ok(Term::Sub(self.term_in(a, left)?, self.term_in(b, left)?)),
-            Term::Mul(a, b) => Ok(Term::Mul(self.term_in(a, left)?, self.term_in(b, left)?)),
-            Term::Quo(a, b) => Ok(Term::Quo(self.term_in(a, left)?, self.term_in(b, left)?)),
-            Term::Rem(a, b) => Ok(Term::Rem(self.term_in(a, left)?, self.term_in(b, left)?)),
-            Term::Mod(a, b) => Ok(Term::Mod(self.term_in(a, left)?, self.term_in(b, left)?)),
-            Term::Pow(a, b) => Ok(Term::Pow(self.term_in(a, left)?, self.term_in(b, left)?)),
-            Term::Bit(p) => Ok(Term::Bit(self.formula_in(p, left)?)),
-            Term::Ite(p, a, b) => Ok(Term::Ite(
+            TermParts::Bit(p) => Ok(Term::Bit(self.formula_in(p, left)?)),
+            TermParts::Choice(p, b, c) => Ok(Term::Ite(
                 self.formula_in(p, left)?,
-                self.term_in(a, left)?,
                 self.term_in(b, left)?,
+                self.term_in(c, left)?,
             )),
-            Term::Sel(a, i) => Ok(Term::Sel(self.term_in(a, left)?, self.term_in(i, left)?)),
-            Term::Sto(a, i, v) => Ok(Term::Sto(
-                self.term_in(a, left)?,
-                self.term_in(i, left)?,
-                self.term_in(v, left)?,
+            TermParts::One(op, b) => Ok(unary_term(op, self.term_in(b, left)?)),
+            TermParts::Two(op, b, c) => Ok(binary_term(
+                op,
+                self.term_in(b, left)?,
+                self.term_in(c, left)?,
             )),
-            Term::Fst(a) => Ok(Term::Fst(self.term_in(a, left)?)),
-            Term::Lst(a) => Ok(Term::Lst(self.term_in(a, left)?)),
-            Term::Fill(first, last, v) => Ok(Term::Fill(
-                self.term_in(first, left)?,
-                self.term_in(last, left)?,
-                self.term_in(v, left)?,
+            TermParts::Three(op, b, c, d) => Ok(ternary_term(
+                op,
+                self.term_in(b, left)?,
+                self.term_in(c, left)?,
+                self.term_in(d, left)?,
             )),
-            Term::Rec(ts) => Ok(Term::Rec(self.terms_in(ts, left)?)),
-            Term::Fld(k, r) => Ok(Term::Fld(*k, self.term_in(r, left)?)),
-            Term::Upd(k, r, v) => Ok(Term::Upd(*k, self.term_in(r, left)?, self.term_in(v, left)?)),
-            Term::Call(k, ts) => Ok(Term::Call(*k, self.terms_in(ts, left)?)),
+            TermParts::List(op, ts) => Ok(list_term(op, self.terms_in(ts, left)?)),
         }
     }
 
@@ -130,31 +123,23 @@ impl<'a> Putting<'a> {
     fn formula(&self, p: &Formula, left: u32) -> Result<Formula, Starved>
         ensures { IfOk result (λ r. formula r ≡ put (term self.now.replacement.now) self.now.variable (formula p.now)) }
     {
-        match p {
-            Formula::True => Ok(Formula::True),
-            Formula::False => Ok(Formula::False),
-            Formula::Tru(a) => Ok(Formula::Tru(self.term_in(a, left)?)),
-            Formula::Le(a, b) => Ok(Formula::Le(self.term_in(a, left)?, self.term_in(b, left)?)),
-            Formula::Eq(a, b) => Ok(Formula::Eq(self.term_in(a, left)?, self.term_in(b, left)?)),
-            Formula::Not(q) => Ok(Formula::Not(self.formula_in(q, left)?)),
-            Formula::And(q, r) => Ok(Formula::And(
+        match formula_parts(p) {
+            FormulaParts::Constant(true) => Ok(Formula::True),
+            FormulaParts::Constant(false) => Ok(Formula::False),
+            FormulaParts::Truth(a) => Ok(Formula::Tru(self.term_in(a, left)?)),
+            FormulaParts::Compared(op, a, b) => Ok(compared(
+                op,
+                self.term_in(a, left)?,
+                self.term_in(b, left)?,
+            )),
+            FormulaParts::Not(q) => Ok(Formula::Not(self.formula_in(q, left)?)),
+            FormulaParts::Joined(op, q, r) => Ok(joined(
+                op,
                 self.formula_in(q, left)?,
                 self.formula_in(r, left)?,
             )),
-            Formula::Or(q, r) => Ok(Formula::Or(
-                self.formula_in(q, left)?,
-                self.formula_in(r, left)?,
-            )),
-            Formula::Iff(q, r) => Ok(Formula::Iff(
-                self.formula_in(q, left)?,
-                self.formula_in(r, left)?,
-            )),
-            Formula::All(first, last, q) => Ok(Formula::All(
-                self.term_in(first, left)?,
-                self.term_in(last, left)?,
-                self.body(q, left)?,
-            )),
-            Formula::Any(first, last, q) => Ok(Formula::Any(
+            FormulaParts::Quantified(op, first, last, q) => Ok(quantified(
+                op,
                 self.term_in(first, left)?,
                 self.term_in(last, left)?,
                 self.body(q, left)?,

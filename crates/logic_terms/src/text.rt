@@ -1,17 +1,24 @@
 //! The texts of terms and formulas, by which variables are ordered.
 
 ghost use Rattle.std.specs.Prelude.{◌≡◌, ◌++◌, IfOk, OnOk, codes};
+ghost use Rattle.logic_terms.specs.Operators.{arith_of, binary_of, comparison_of, connective_of, list_of, quantifier_of, ternary_of, unary_of};
 ghost use Rattle.logic_terms.specs.View.{term, formula, terms};
-ghost use Rattle.logic_terms.specs.Text.{number_text, whole_text, node_text, spaced_text, precedes as lesser};
+ghost use Rattle.logic_terms.specs.Text.{arith_text, node_text, number_text, op1_text, op2_text, op3_text, opn_text, precedes as lesser, quant_text, spaced_text, whole_text};
 
-use crate::{Formula, Starved, Term, TermList};
-use std::alloc::{AllocError, Global};
+use crate::Starved;
+use crate::operators::{
+    Arithmetic, BinaryOperator, Comparison, Connective, ListOperator, Quantifier, TernaryOperator,
+    UnaryOperator,
+};
+use crate::parts::{FormulaParts, TermParts, formula_parts, term_parts};
+use crate::syntax::{Formula, Term, TermList};
+use std::alloc::Global;
 use std::cmp::Ordering;
 
 /// Adds a number in decimal digits.
 #[inline(never)]
-#[tactic(auto, using(crate::proofs::Numerals::number_is))]
-fn push_number(alloc: Global, text: &mut Vec<u8>, number: u32) -> Result<(), AllocError>
+#[tactic(auto, using(crate::proofs::Numerals::decimal_is))]
+pub fn push_number(alloc: Global, text: &mut Vec<u8>, number: u64) -> Result<(), Starved>
     ensures { OnOk result (text.new.items ≡ text.old.items ++ number_text number) }
 {
     let digits = format!(in alloc; "{number}")?;
@@ -21,25 +28,119 @@ fn push_number(alloc: Global, text: &mut Vec<u8>, number: u32) -> Result<(), All
 /// Adds a whole number in decimal digits, with a sign where it is negative.
 #[inline(never)]
 #[tactic(auto, using(crate::proofs::Numerals::signed_is))]
-fn push_whole(alloc: Global, text: &mut Vec<u8>, number: i128) -> Result<(), AllocError>
+pub fn push_whole(alloc: Global, text: &mut Vec<u8>, number: i128) -> Result<(), Starved>
     ensures { OnOk result (text.new.items ≡ text.old.items ++ whole_text number) }
 {
     let digits = format!(in alloc; "{number}")?;
     text.extend_from_slice(digits.as_bytes())
 }
 
+/// Adds a name with a number after it.
+fn push_numbered(alloc: Global, text: &mut Vec<u8>, name: &str, number: u32) -> Result<(), Starved>
+    ensures { OnOk result (text.new.items ≡ text.old.items ++ (name.now ++ number_text number)) }
+{
+    text.extend_from_slice(name.as_bytes())?;
+    push_number(alloc, text, u64::from(number))
+}
+
+fn arithmetic_name(op: Arithmetic) -> &'static str
+    ensures { result.now ≡ arith_text (arith_of op) }
+{
+    match op {
+        Arithmetic::Add => "+",
+        Arithmetic::Sub => "-",
+        Arithmetic::Mul => "*",
+        Arithmetic::Quo => "quo",
+        Arithmetic::Rem => "rem",
+        Arithmetic::Mod => "mod",
+        Arithmetic::Pow => "pow",
+    }
+}
+
+fn ternary_name(op: TernaryOperator) -> &'static str
+    ensures { result.now ≡ op3_text (ternary_of op) }
+{
+    match op {
+        TernaryOperator::Store => "sto",
+        TernaryOperator::Fill => "fill",
+    }
+}
+
+fn comparison_name(op: Comparison) -> &'static str
+    ensures { result.now ≡ op2_text (comparison_of op) }
+{
+    match op {
+        Comparison::AtMost => "<=",
+        Comparison::Equal => "=",
+    }
+}
+
+fn connective_name(op: Connective) -> &'static str
+    ensures { result.now ≡ op2_text (connective_of op) }
+{
+    match op {
+        Connective::And => "and",
+        Connective::Or => "or",
+        Connective::Iff => "iff",
+    }
+}
+
+fn quantifier_name(op: Quantifier) -> &'static str
+    ensures { result.now ≡ quant_text (quantifier_of op) }
+{
+    match op {
+        Quantifier::All => "all",
+        Quantifier::Any => "any",
+    }
+}
+
 /// Adds a bracket and a name.
 #[inline(never)]
-fn open(text: &mut Vec<u8>, name: &str) -> Result<(), AllocError>
+fn open(text: &mut Vec<u8>, name: &str) -> Result<(), Starved>
     ensures { OnOk result (text.new.items ≡ text.old.items ++ codes "(" ++ name.now) }
 {
     text.extend_from_slice(b"(")?;
     text.extend_from_slice(name.as_bytes())
 }
 
+/// Adds a bracket and the operator of one operand.
+fn open_unary(alloc: Global, text: &mut Vec<u8>, op: UnaryOperator) -> Result<(), Starved>
+    ensures { OnOk result (text.new.items ≡ text.old.items ++ codes "(" ++ op1_text (unary_of op)) }
+{
+    text.extend_from_slice(b"(")?;
+    match op {
+        UnaryOperator::First => text.extend_from_slice(b"fst"),
+        UnaryOperator::Last => text.extend_from_slice(b"lst"),
+        UnaryOperator::Field(k) => push_numbered(alloc, text, "fld ", k),
+    }
+}
+
+/// Adds a bracket and the operator of two operands.
+fn open_binary(alloc: Global, text: &mut Vec<u8>, op: BinaryOperator) -> Result<(), Starved>
+    ensures { OnOk result (text.new.items ≡ text.old.items ++ codes "(" ++ op2_text (binary_of op)) }
+{
+    text.extend_from_slice(b"(")?;
+    match op {
+        BinaryOperator::Compute(o) => text.extend_from_slice(arithmetic_name(o).as_bytes()),
+        BinaryOperator::Select => text.extend_from_slice(b"sel"),
+        BinaryOperator::Update(k) => push_numbered(alloc, text, "upd ", k),
+    }
+}
+
+/// Adds a bracket and the operator of a list.
+fn open_list(alloc: Global, text: &mut Vec<u8>, op: ListOperator) -> Result<(), Starved>
+    ensures { OnOk result (text.new.items ≡ text.old.items ++ codes "(" ++ opn_text (list_of op)) }
+{
+    text.extend_from_slice(b"(")?;
+    match op {
+        ListOperator::Record => text.extend_from_slice(b"rec"),
+        ListOperator::Call(k) => push_numbered(alloc, text, "call ", k),
+    }
+}
+
 /// Adds a space and a term.
 #[cycle(text)]
-fn push_spaced(alloc: Global, text: &mut Vec<u8>, t: &Term) -> Result<(), AllocError>
+pub fn push_spaced_term(alloc: Global, text: &mut Vec<u8>, t: &Term) -> Result<(), Starved>
     ensures { OnOk result (text.new.items ≡ text.old.items ++ (codes " " ++ node_text (term t.now))) }
 {
     text.extend_from_slice(b" ")?;
@@ -48,237 +149,119 @@ fn push_spaced(alloc: Global, text: &mut Vec<u8>, t: &Term) -> Result<(), AllocE
 
 /// Adds a space and a formula.
 #[cycle(text)]
-fn push_spaced_formula(alloc: Global, text: &mut Vec<u8>, p: &Formula) -> Result<(), AllocError>
+pub fn push_spaced_formula(alloc: Global, text: &mut Vec<u8>, p: &Formula) -> Result<(), Starved>
     ensures { OnOk result (text.new.items ≡ text.old.items ++ (codes " " ++ node_text (formula p.now))) }
 {
     text.extend_from_slice(b" ")?;
     push_formula(alloc, text, p)
 }
 
-/// Adds terms, each with a space before it.
+/// Adds terms, each with a space before it, and a bracket.
 #[cycle(text)]
-fn push_terms(alloc: Global, text: &mut Vec<u8>, ts: &TermList) -> Result<(), AllocError>
-    ensures { OnOk result (text.new.items ≡ text.old.items ++ spaced_text (terms ts.now)) }
+fn push_last_terms(alloc: Global, text: &mut Vec<u8>, ts: &TermList) -> Result<(), Starved>
+    ensures { OnOk result (text.new.items ≡ text.old.items ++ spaced_text (terms ts.now) ++ codes ")") }
 {
     for t in ts.as_slice() {
-        push_spaced(alloc, text, t)?;
+        push_spaced_term(alloc, text, t)?;
     }
-    Ok(())
-}
-
-/// Adds a bracket, a name and the first operand.
-#[cycle(text)]
-fn push_first(alloc: Global, text: &mut Vec<u8>, name: &str, t: &Term) -> Result<(), AllocError>
-    ensures { OnOk result (text.new.items ≡ text.old.items ++ (codes "(" ++ name.now ++ (codes " " ++ node_text (term t.now)))) }
-{
-    open(text, name)?;
-    push_spaced(alloc, text, t)
+    text.extend_from_slice(b")")
 }
 
 /// Adds the last operand and a bracket.
 #[cycle(text)]
-fn push_last(alloc: Global, text: &mut Vec<u8>, t: &Term) -> Result<(), AllocError>
+fn push_last(alloc: Global, text: &mut Vec<u8>, t: &Term) -> Result<(), Starved>
     ensures { OnOk result (text.new.items ≡ text.old.items ++ (codes " " ++ node_text (term t.now)) ++ codes ")") }
 {
-    push_spaced(alloc, text, t)?;
+    push_spaced_term(alloc, text, t)?;
     text.extend_from_slice(b")")
 }
 
-/// Adds a bracket, a name and a formula as the first operand.
+/// Adds the last two operands and a bracket.
 #[cycle(text)]
-fn push_first_formula(
-    alloc: Global,
-    text: &mut Vec<u8>,
-    name: &str,
-    p: &Formula,
-) -> Result<(), AllocError>
-    ensures { OnOk result (text.new.items ≡ text.old.items ++ (codes "(" ++ name.now ++ (codes " " ++ node_text (formula p.now)))) }
+fn push_last_two(alloc: Global, text: &mut Vec<u8>, a: &Term, b: &Term) -> Result<(), Starved>
+    ensures { OnOk result (text.new.items ≡ text.old.items ++ (codes " " ++ node_text (term a.now)) ++ (codes " " ++ node_text (term b.now)) ++ codes ")") }
 {
-    open(text, name)?;
-    push_spaced_formula(alloc, text, p)
+    push_spaced_term(alloc, text, a)?;
+    push_last(alloc, text, b)
 }
 
 /// Adds a formula as the last operand and a bracket.
 #[cycle(text)]
-fn push_last_formula(alloc: Global, text: &mut Vec<u8>, p: &Formula) -> Result<(), AllocError>
+fn push_last_formula(alloc: Global, text: &mut Vec<u8>, p: &Formula) -> Result<(), Starved>
     ensures { OnOk result (text.new.items ≡ text.old.items ++ (codes " " ++ node_text (formula p.now)) ++ codes ")") }
 {
     push_spaced_formula(alloc, text, p)?;
     text.extend_from_slice(b")")
 }
 
-/// Adds a name with a number after it and a bracket before it.
-fn open_numbered(
-    alloc: Global,
-    text: &mut Vec<u8>,
-    name: &str,
-    number: u32,
-) -> Result<(), AllocError>
-    ensures { OnOk result (text.new.items ≡ text.old.items ++ (codes "(" ++ (name.now ++ number_text number))) }
-{
-    open(text, name)?;
-    push_number(alloc, text, number)
-}
-
-/// Adds a letter with a number after it.
-fn push_numbered(
-    alloc: Global,
-    text: &mut Vec<u8>,
-    letter: &str,
-    number: u32,
-) -> Result<(), AllocError>
-    ensures { OnOk result (text.new.items ≡ text.old.items ++ (letter.now ++ number_text number)) }
-{
-    text.extend_from_slice(letter.as_bytes())?;
-    push_number(alloc, text, number)
-}
-
 /// Adds a term.
 #[cycle(text)]
-fn push_term(alloc: Global, text: &mut Vec<u8>, t: &Term) -> Result<(), AllocError>
+fn push_term(alloc: Global, text: &mut Vec<u8>, t: &Term) -> Result<(), Starved>
     ensures { OnOk result (text.new.items ≡ text.old.items ++ node_text (term t.now)) }
 {
-    match t {
-        Term::Num(n) => push_whole(alloc, text, *n),
-        Term::Sym(k) => push_numbered(alloc, text, "s", *k),
-        Term::Bound(k) => push_numbered(alloc, text, "b", *k),
-        Term::Add(a, b) => {
-            push_first(alloc, text, "+", a.get())?;
-            push_last(alloc, text, b.get())
-        }
-        Term::Sub(a, b) => {
-            push_first(alloc, text, "-", a.get())?;
-            push_last(alloc, text, b.get())
-        }
-        Term::Mul(a, b) => {
-            push_first(alloc, text, "*", a.get())?;
-            push_last(alloc, text, b.get())
-        }
-        Term::Quo(a, b) => {
-            push_first(alloc, text, "quo", a.get())?;
-            push_last(alloc, text, b.get())
-        }
-        Term::Rem(a, b) => {
-            push_first(alloc, text, "rem", a.get())?;
-            push_last(alloc, text, b.get())
-        }
-        Term::Mod(a, b) => {
-            push_first(alloc, text, "mod", a.get())?;
-            push_last(alloc, text, b.get())
-        }
-        Term::Pow(a, b) => {
-            push_first(alloc, text, "pow", a.get())?;
-            push_last(alloc, text, b.get())
-        }
-        Term::Bit(p) => {
+    match term_parts(t) {
+        TermParts::Number(n) => push_whole(alloc, text, n),
+        TermParts::Symbol(k) => push_numbered(alloc, text, "s", k),
+        TermParts::Bound(k) => push_numbered(alloc, text, "b", k),
+        TermParts::Bit(p) => {
             open(text, "bit")?;
-            push_last_formula(alloc, text, p.get())
+            push_last_formula(alloc, text, p)
         }
-        Term::Ite(p, a, b) => {
-            push_first_formula(alloc, text, "ite", p.get())?;
-            push_spaced(alloc, text, a.get())?;
-            push_last(alloc, text, b.get())
+        TermParts::Choice(p, a, b) => {
+            open(text, "ite")?;
+            push_spaced_formula(alloc, text, p)?;
+            push_last_two(alloc, text, a, b)
         }
-        _ => push_compound(alloc, text, t),
-    }
-}
-
-/// Adds a term of arrays, records or calls; no other term comes here.
-#[cycle(text)]
-fn push_compound(alloc: Global, text: &mut Vec<u8>, t: &Term) -> Result<(), AllocError>
-    ensures { OnOk result (text.new.items ≡ text.old.items ++ node_text (term t.now)) }
-{
-    match t {
-        Term::Sel(a, i) => {
-            push_first(alloc, text, "sel", a.get())?;
-            push_last(alloc, text, i.get())
+        TermParts::One(op, a) => {
+            open_unary(alloc, text, op)?;
+            push_last(alloc, text, a)
         }
-        Term::Sto(a, i, v) => {
-            push_first(alloc, text, "sto", a.get())?;
-            push_spaced(alloc, text, i.get())?;
-            push_last(alloc, text, v.get())
+        TermParts::Two(op, a, b) => {
+            open_binary(alloc, text, op)?;
+            push_last_two(alloc, text, a, b)
         }
-        Term::Fst(a) => {
-            push_first(alloc, text, "fst", a.get())?;
-            text.extend_from_slice(b")")
+        TermParts::Three(op, a, b, c) => {
+            open(text, ternary_name(op))?;
+            push_spaced_term(alloc, text, a)?;
+            push_last_two(alloc, text, b, c)
         }
-        Term::Lst(a) => {
-            push_first(alloc, text, "lst", a.get())?;
-            text.extend_from_slice(b")")
+        TermParts::List(op, ts) => {
+            open_list(alloc, text, op)?;
+            push_last_terms(alloc, text, ts)
         }
-        Term::Fill(first, last, v) => {
-            push_first(alloc, text, "fill", first.get())?;
-            push_spaced(alloc, text, last.get())?;
-            push_last(alloc, text, v.get())
-        }
-        Term::Rec(ts) => {
-            open(text, "rec")?;
-            push_terms(alloc, text, ts)?;
-            text.extend_from_slice(b")")
-        }
-        Term::Fld(k, r) => {
-            open_numbered(alloc, text, "fld ", *k)?;
-            push_last(alloc, text, r.get())
-        }
-        Term::Upd(k, r, v) => {
-            open_numbered(alloc, text, "upd ", *k)?;
-            push_spaced(alloc, text, r.get())?;
-            push_last(alloc, text, v.get())
-        }
-        Term::Call(k, ts) => {
-            open_numbered(alloc, text, "call ", *k)?;
-            push_terms(alloc, text, ts)?;
-            text.extend_from_slice(b")")
-        }
-        _ => Err(AllocError),
     }
 }
 
 /// Adds a formula.
 #[cycle(text)]
-fn push_formula(alloc: Global, text: &mut Vec<u8>, p: &Formula) -> Result<(), AllocError>
+pub fn push_formula(alloc: Global, text: &mut Vec<u8>, p: &Formula) -> Result<(), Starved>
     ensures { OnOk result (text.new.items ≡ text.old.items ++ node_text (formula p.now)) }
 {
-    match p {
-        Formula::True => text.extend_from_slice(b"T"),
-        Formula::False => text.extend_from_slice(b"F"),
-        Formula::Tru(t) => {
-            push_first(alloc, text, "tru", t.get())?;
-            text.extend_from_slice(b")")
+    match formula_parts(p) {
+        FormulaParts::Constant(true) => text.extend_from_slice(b"T"),
+        FormulaParts::Constant(false) => text.extend_from_slice(b"F"),
+        FormulaParts::Truth(t) => {
+            open(text, "tru")?;
+            push_last(alloc, text, t)
         }
-        Formula::Le(a, b) => {
-            push_first(alloc, text, "<=", a.get())?;
-            push_last(alloc, text, b.get())
+        FormulaParts::Compared(op, a, b) => {
+            open(text, comparison_name(op))?;
+            push_last_two(alloc, text, a, b)
         }
-        Formula::Eq(a, b) => {
-            push_first(alloc, text, "=", a.get())?;
-            push_last(alloc, text, b.get())
-        }
-        Formula::Not(q) => {
+        FormulaParts::Not(q) => {
             open(text, "not")?;
-            push_last_formula(alloc, text, q.get())
+            push_last_formula(alloc, text, q)
         }
-        Formula::And(q, r) => {
-            push_first_formula(alloc, text, "and", q.get())?;
-            push_last_formula(alloc, text, r.get())
+        FormulaParts::Joined(op, q, r) => {
+            open(text, connective_name(op))?;
+            push_spaced_formula(alloc, text, q)?;
+            push_last_formula(alloc, text, r)
         }
-        Formula::Or(q, r) => {
-            push_first_formula(alloc, text, "or", q.get())?;
-            push_last_formula(alloc, text, r.get())
-        }
-        Formula::Iff(q, r) => {
-            push_first_formula(alloc, text, "iff", q.get())?;
-            push_last_formula(alloc, text, r.get())
-        }
-        Formula::All(first, last, q) => {
-            push_first(alloc, text, "all", first.get())?;
-            push_spaced(alloc, text, last.get())?;
-            push_last_formula(alloc, text, q.get())
-        }
-        Formula::Any(first, last, q) => {
-            push_first(alloc, text, "any", first.get())?;
-            push_spaced(alloc, text, last.get())?;
-            push_last_formula(alloc, text, q.get())
+        FormulaParts::Quantified(op, first, last, q) => {
+            open(text, quantifier_name(op))?;
+            push_spaced_term(alloc, text, first)?;
+            push_spaced_term(alloc, text, last)?;
+            push_last_formula(alloc, text, q)
         }
     }
 }

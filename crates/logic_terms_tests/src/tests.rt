@@ -1,9 +1,10 @@
 //! Worked cases of the truth, and the calls that take memory, each once.
 
 use logic_terms::{
-    Formula, Goal, MOST_LEVELS, Sort, Starved, Term, TruthFault, is_constant, negate, put_in,
-    same_formula, same_sort, truth,
+    Formula, Goal, MOST_LEVELS, Sort, Starved, Term, is_constant, negate, put_in, same_formula,
+    same_sort,
 };
+use logic_truth::{TruthFault, truth};
 use sqlite_items::{Boxed, Items};
 use std::alloc::Global;
 use std::test::Fail;

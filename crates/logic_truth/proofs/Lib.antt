@@ -1,0 +1,12 @@
+pub mod Powers
+pub mod Whole
+pub mod Steps
+pub mod Operands
+pub mod Over
+pub mod Reach
+pub mod Prefix
+pub mod Checked
+pub mod Alike
+pub mod Telling
+pub mod Fields
+pub mod KindViews
