@@ -58,28 +58,47 @@ pub enum Quantifier {
 }
 
 /// A range by its two bounds, or one expression alone, which may name a range or a subtype (Ada RM 3.5).
-#[derive(Drop)]
 pub struct Range<E> {
     pub low: E,
     pub high: Option<E>,
 }
 
+impl<E: Drop> Drop for Range<E> {
+    fn drop(self) {
+        let Range { low, high } = self;
+        drop(low);
+        drop(high);
+    }
+}
+
 /// A condition of an if-expression, and what the expression gives where it is the first that is True (Ada RM 4.5.7).
-#[derive(Drop)]
 pub struct Arm<E> {
     pub condition: E,
     pub gives: E,
 }
 
+impl<E: Drop> Drop for Arm<E> {
+    fn drop(self) {
+        let Arm { condition, gives } = self;
+        drop(condition);
+        drop(gives);
+    }
+}
+
 /// What may stand where an expression is wanted in parentheses or in an aspect.
-#[derive(Drop)]
 pub struct Item<E> {
     pub span: Span,
     pub form: ItemForm<E>,
 }
 
+impl<E: Drop> Drop for Item<E> {
+    fn drop(self) {
+        let Item { span: _, form } = self;
+        drop(form);
+    }
+}
+
 /// The forms of an item.
-#[derive(Drop)]
 pub enum ItemForm<E> {
     Plain(E),
     /// An if-expression: one arm or more, and what stands after `else`.
@@ -88,8 +107,23 @@ pub enum ItemForm<E> {
     Quantified(Quantifier, Span, Range<E>, E),
 }
 
+impl<E: Drop> Drop for ItemForm<E> {
+    fn drop(self) {
+        match self {
+            ItemForm::Plain(expr) => drop(expr),
+            ItemForm::If(arms, otherwise) => {
+                drop(arms);
+                drop(otherwise);
+            }
+            ItemForm::Quantified(_, _, range, predicate) => {
+                drop(range);
+                drop(predicate);
+            }
+        }
+    }
+}
+
 /// One of the arguments, associations or choices in parentheses.
-#[derive(Drop)]
 pub struct Arg<E> {
     pub span: Span,
     pub choice: ArgChoice<E>,
@@ -97,16 +131,39 @@ pub struct Arg<E> {
     pub value: Option<Item<E>>,
 }
 
+impl<E: Drop> Drop for Arg<E> {
+    fn drop(self) {
+        let Arg {
+            span: _,
+            choice,
+            value,
+        } = self;
+        drop(choice);
+        drop(value);
+    }
+}
+
 /// What stands in an argument before its `=>`.
-#[derive(Drop)]
 pub enum ArgChoice<E> {
     Others,
     Item(Item<E>),
     Range(E, E),
 }
 
+impl<E: Drop> Drop for ArgChoice<E> {
+    fn drop(self) {
+        match self {
+            ArgChoice::Others => {}
+            ArgChoice::Item(item) => drop(item),
+            ArgChoice::Range(low, high) => {
+                drop(low);
+                drop(high);
+            }
+        }
+    }
+}
+
 /// What stands after the tick of a name.
-#[derive(Drop)]
 pub enum Attribute<E> {
     Named(Span),
     Range,
@@ -114,8 +171,17 @@ pub enum Attribute<E> {
     Qualified(Items<Arg<E>>),
 }
 
+impl<E: Drop> Drop for Attribute<E> {
+    fn drop(self) {
+        match self {
+            Attribute::Named(_) => {}
+            Attribute::Range => {}
+            Attribute::Qualified(args) => drop(args),
+        }
+    }
+}
+
 /// A further part of a name.
-#[derive(Drop)]
 pub enum Suffix<E> {
     /// The identifier after a `.`.
     Selected(Span),
@@ -125,23 +191,48 @@ pub enum Suffix<E> {
     Applied(Items<Arg<E>>),
 }
 
+impl<E: Drop> Drop for Suffix<E> {
+    fn drop(self) {
+        match self {
+            Suffix::Selected(_) => {}
+            Suffix::Ticked(_, attribute) => drop(attribute),
+            Suffix::Applied(args) => drop(args),
+        }
+    }
+}
+
 /// A name (Ada RM 4.1): an identifier and its suffixes.
-#[derive(Drop)]
 pub struct Name<E> {
     pub span: Span,
     pub first: Span,
     pub suffixes: Items<Suffix<E>>,
 }
 
+impl<E: Drop> Drop for Name<E> {
+    fn drop(self) {
+        let Name {
+            span: _,
+            first: _,
+            suffixes,
+        } = self;
+        drop(suffixes);
+    }
+}
+
 /// An expression.
-#[derive(Drop)]
 pub struct Expr {
     pub span: Span,
     pub node: ExprNode<Expr>,
 }
 
+impl Drop for Expr {
+    fn drop(self) {
+        let Expr { span: _, node } = self;
+        drop(node);
+    }
+}
+
 /// The forms of an expression over its parts, which have the type `E`.
-#[derive(Drop)]
 pub enum ExprNode<E> {
     Number(i128),
     Null,
@@ -154,4 +245,24 @@ pub enum ExprNode<E> {
     Binary(Span, BinaryOperator, Boxed<E>, Boxed<E>),
     /// A membership test: the place of `in`, or of `not` for true, the number or value, and the range.
     Member(Span, bool, Boxed<E>, Boxed<Range<E>>),
+}
+
+impl<E: Drop> Drop for ExprNode<E> {
+    fn drop(self) {
+        match self {
+            ExprNode::Number(_) => {}
+            ExprNode::Null => {}
+            ExprNode::Name(name) => drop(name),
+            ExprNode::Group(args) => drop(args),
+            ExprNode::Unary(_, _, operand) => drop(operand),
+            ExprNode::Binary(_, _, left, right) => {
+                drop(left);
+                drop(right);
+            }
+            ExprNode::Member(_, _, tested, range) => {
+                drop(tested);
+                drop(range);
+            }
+        }
+    }
 }

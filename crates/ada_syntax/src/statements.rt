@@ -5,36 +5,67 @@ use ada_text::Span;
 use sqlite_items::Items;
 
 /// A pragma, with its name and its arguments. Without parentheses there are none, and in parentheses one or more.
-#[derive(Drop)]
 pub struct Pragma {
     pub span: Span,
     pub name: Span,
     pub args: Items<Arg<Expr>>,
 }
 
+impl Drop for Pragma {
+    fn drop(self) {
+        let Pragma {
+            span: _,
+            name: _,
+            args,
+        } = self;
+        drop(args);
+    }
+}
+
 /// A condition of an `if` or an `elsif`, with its statements.
-#[derive(Drop)]
 pub struct Branch<S> {
     pub condition: Expr,
     pub body: Items<S>,
 }
 
+impl<S: Drop> Drop for Branch<S> {
+    fn drop(self) {
+        let Branch { condition, body } = self;
+        drop(condition);
+        drop(body);
+    }
+}
+
 /// A choice of an alternative of a `case` (Ada RM 3.8.1).
-#[derive(Drop)]
 pub enum Choice {
     Others,
     Range(Range<Expr>),
 }
 
+impl Drop for Choice {
+    fn drop(self) {
+        match self {
+            Choice::Others => {}
+            Choice::Range(range) => drop(range),
+        }
+    }
+}
+
 /// An alternative of a `case`: one choice or more, with its statements.
-#[derive(Drop)]
 pub struct Alternative<S> {
     pub choices: Items<Choice>,
     pub body: Items<S>,
 }
 
+impl<S: Drop> Drop for Alternative<S> {
+    fn drop(self) {
+        let Alternative { choices, body } = self;
+        drop(choices);
+        drop(body);
+    }
+}
+
 /// What stands before `loop` (Ada RM 5.5).
-#[derive(Drop)]
 pub enum LoopHead {
     Forever,
     While(Expr),
@@ -42,15 +73,30 @@ pub enum LoopHead {
     For(Span, bool, Range<Expr>),
 }
 
+impl Drop for LoopHead {
+    fn drop(self) {
+        match self {
+            LoopHead::Forever => {}
+            LoopHead::While(condition) => drop(condition),
+            LoopHead::For(_, _, range) => drop(range),
+        }
+    }
+}
+
 /// A statement.
-#[derive(Drop)]
 pub struct Stmt {
     pub span: Span,
     pub action: Action<Stmt>,
 }
 
+impl Drop for Stmt {
+    fn drop(self) {
+        let Stmt { span: _, action } = self;
+        drop(action);
+    }
+}
+
 /// The forms of a statement over statements, which have the type `S`.
-#[derive(Drop)]
 pub enum Action<S> {
     Null,
     Call(Name<Expr>),
@@ -63,4 +109,32 @@ pub enum Action<S> {
     Exit(Option<Expr>),
     Return(Option<Expr>),
     Pragma(Pragma),
+}
+
+impl<S: Drop> Drop for Action<S> {
+    fn drop(self) {
+        match self {
+            Action::Null => {}
+            Action::Call(name) => drop(name),
+            Action::Assign(target, value) => {
+                drop(target);
+                drop(value);
+            }
+            Action::If(branches, otherwise) => {
+                drop(branches);
+                drop(otherwise);
+            }
+            Action::Case(selector, alternatives) => {
+                drop(selector);
+                drop(alternatives);
+            }
+            Action::Loop(head, body) => {
+                drop(head);
+                drop(body);
+            }
+            Action::Exit(condition) => drop(condition),
+            Action::Return(value) => drop(value),
+            Action::Pragma(pragma) => drop(pragma),
+        }
+    }
 }

@@ -6,16 +6,24 @@ use ada_text::Span;
 use sqlite_items::Items;
 
 /// What may stand before a unit. A clause has one name or more.
-#[derive(Drop)]
 pub enum ContextItem {
     Pragma(Pragma),
     With(Items<Span>),
     Use(Items<Span>),
 }
 
+impl Drop for ContextItem {
+    fn drop(self) {
+        match self {
+            ContextItem::Pragma(pragma) => drop(pragma),
+            ContextItem::With(names) => drop(names),
+            ContextItem::Use(names) => drop(names),
+        }
+    }
+}
+
 /// A package's declaration (Ada RM 7.1), with the declarations after `private` where that word stands, and the name
 /// after its `end`.
-#[derive(Drop)]
 pub struct Package {
     pub name: Span,
     pub aspects: Items<Aspect>,
@@ -24,13 +32,40 @@ pub struct Package {
     pub end_name: Option<Span>,
 }
 
+impl Drop for Package {
+    fn drop(self) {
+        let Package {
+            name: _,
+            aspects,
+            declarations,
+            private,
+            end_name: _,
+        } = self;
+        drop(aspects);
+        drop(declarations);
+        drop(private);
+    }
+}
+
 /// A package's body (Ada RM 7.2), with the name after its `end`.
-#[derive(Drop)]
 pub struct PackageBody {
     pub name: Span,
     pub aspects: Items<Aspect>,
     pub declarations: Items<Decl>,
     pub end_name: Option<Span>,
+}
+
+impl Drop for PackageBody {
+    fn drop(self) {
+        let PackageBody {
+            name: _,
+            aspects,
+            declarations,
+            end_name: _,
+        } = self;
+        drop(aspects);
+        drop(declarations);
+    }
 }
 
 /// A library unit.
@@ -41,17 +76,37 @@ pub struct Unit {
 }
 
 /// The forms of a library unit.
-#[derive(Drop)]
 pub enum UnitForm {
     Package(Package),
     PackageBody(PackageBody),
     Sub(Sub<Decl>),
 }
 
+impl Drop for UnitForm {
+    fn drop(self) {
+        match self {
+            UnitForm::Package(package) => drop(package),
+            UnitForm::PackageBody(package) => drop(package),
+            UnitForm::Sub(sub) => drop(sub),
+        }
+    }
+}
+
 /// A file: what stands before its unit, and the unit.
-#[derive(Drop)]
 pub struct SourceUnit {
     pub span: Span,
     pub context: Items<ContextItem>,
     pub unit: Unit,
+}
+
+impl Drop for SourceUnit {
+    fn drop(self) {
+        let SourceUnit {
+            span: _,
+            context,
+            unit,
+        } = self;
+        drop(context);
+        drop(unit);
+    }
 }

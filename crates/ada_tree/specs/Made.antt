@@ -3,7 +3,7 @@ use Rattle.std.specs.Prelude.{ℕ, zero, suc, List, [], ◌∷◌}
 use Rattle.ada_tree.specs.declared.part.Part.{Part}
 use Rattle.ada_tree.specs.declared.rules.Rule.{Rule}
 use Rattle.ada_tree.specs.declared.rules.Rule.TheVariants as rule
-use Rattle.ada_tree.specs.declared.rules.TheConstants.{RULES}
+use Rattle.ada_tree.specs.declared.rule_table.TheConstants.{RULES}
 use Rattle.ada_tree.specs.Declarations.{declaration_rule}
 use Rattle.ada_tree.specs.Expressions.{expression_rule}
 use Rattle.ada_tree.specs.Items.{item_rule}

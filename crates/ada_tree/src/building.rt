@@ -56,8 +56,8 @@ fn parts_of(alloc: Global, moves: Items<Move>, tokens: &[Token]) -> Result<Parts
     Ok(parts)
 }
 
-/// The tree of a derivation of these tokens. `Starved` comes where memory was refused, and where more than a thousand
-/// subprograms stand one in another.
+/// The tree of a derivation of these tokens. `Starved` comes where memory was refused, and where more than 500 subprograms
+/// stand one in another, or fewer with other nesting around them or in them.
 pub fn build(
     alloc: Global,
     derivation: &Derivation,

@@ -12,6 +12,165 @@ use ada_syntax::{Decl, DeclForm, Object};
 use grammar_table::Starved;
 use std::alloc::Global;
 
+/// `Decls = Decl Decls`
+fn apply_decls(alloc: Global, parts: &mut Parts) -> Result<(), Starved>
+    ensures { OnOk result (parts.new ≡ declaration_rule DeclarationRule.Decls parts.old) }
+{
+    let decl = parts.decl(alloc);
+    let mut decls = parts.decls(alloc);
+    decls.put_first(decl)?;
+    parts.put_declaration(alloc, DeclarationPart::Decls(decls))
+}
+
+/// `Decl = type Id is TypeDef ;`
+fn apply_type(alloc: Global, parts: &mut Parts) -> Result<(), Starved>
+    ensures { OnOk result (parts.new ≡ declaration_rule DeclarationRule.Type parts.old) }
+{
+    let start = parts.place();
+    let name = parts.place();
+    parts.skip();
+    let definition = parts.type_def(alloc);
+    let end = parts.place();
+    parts.put_declaration(
+        alloc,
+        DeclarationPart::Decl(Decl {
+            span: joined(start, end),
+            form: DeclForm::Type(name, definition),
+        }),
+    )
+}
+
+/// `Decl = subtype Id is SubInd ;`
+fn apply_subtype(alloc: Global, parts: &mut Parts) -> Result<(), Starved>
+    ensures { OnOk result (parts.new ≡ declaration_rule DeclarationRule.Subtype parts.old) }
+{
+    let start = parts.place();
+    let name = parts.place();
+    parts.skip();
+    let subtype = parts.sub_ind(alloc);
+    let end = parts.place();
+    parts.put_declaration(
+        alloc,
+        DeclarationPart::Decl(Decl {
+            span: joined(start, end),
+            form: DeclForm::Subtype(name, subtype),
+        }),
+    )
+}
+
+/// `Decl = Id Ids : Obj ;`
+fn apply_object(alloc: Global, parts: &mut Parts) -> Result<(), Starved>
+    ensures { OnOk result (parts.new ≡ declaration_rule DeclarationRule.Object parts.old) }
+{
+    let name = parts.place();
+    let mut names = parts.names(alloc);
+    parts.skip();
+    let object = parts.object();
+    let end = parts.place();
+    names.put_first(name)?;
+    parts.put_declaration(
+        alloc,
+        DeclarationPart::Decl(Decl {
+            span: joined(name, end),
+            form: DeclForm::Object(names.into_items(), object),
+        }),
+    )
+}
+
+/// `Decl = Sub`
+fn apply_decl_sub(alloc: Global, parts: &mut Parts) -> Result<(), Starved>
+    ensures { OnOk result (parts.new ≡ declaration_rule DeclarationRule.DeclSub parts.old) }
+{
+    let sub = parts.sub(alloc);
+    parts.put_declaration(
+        alloc,
+        DeclarationPart::Decl(Decl {
+            span: sub.span,
+            form: DeclForm::Sub(sub),
+        }),
+    )
+}
+
+/// `Decl = Pragma`
+fn apply_decl_pragma(alloc: Global, parts: &mut Parts) -> Result<(), Starved>
+    ensures { OnOk result (parts.new ≡ declaration_rule DeclarationRule.DeclPragma parts.old) }
+{
+    let pragma = parts.pragma(alloc);
+    parts.put_declaration(
+        alloc,
+        DeclarationPart::Decl(Decl {
+            span: pragma.span,
+            form: DeclForm::Pragma(pragma),
+        }),
+    )
+}
+
+/// `Decl = use Id Ids ;`
+fn apply_decl_use(alloc: Global, parts: &mut Parts) -> Result<(), Starved>
+    ensures { OnOk result (parts.new ≡ declaration_rule DeclarationRule.DeclUse parts.old) }
+{
+    let start = parts.place();
+    let name = parts.place();
+    let mut names = parts.names(alloc);
+    let end = parts.place();
+    names.put_first(name)?;
+    parts.put_declaration(
+        alloc,
+        DeclarationPart::Decl(Decl {
+            span: joined(start, end),
+            form: DeclForm::Use(names.into_items()),
+        }),
+    )
+}
+
+/// `Obj = SubInd Init`
+fn apply_variable(alloc: Global, parts: &mut Parts) -> Result<(), Starved>
+    ensures { OnOk result (parts.new ≡ declaration_rule DeclarationRule.Variable parts.old) }
+{
+    let subtype = parts.sub_ind(alloc);
+    let value = parts.optional_expr();
+    parts.put_declaration(
+        alloc,
+        DeclarationPart::Object(Object {
+            constant: false,
+            subtype: Some(subtype),
+            value,
+        }),
+    )
+}
+
+/// `Const = := Expr`
+fn apply_named_number(alloc: Global, parts: &mut Parts) -> Result<(), Starved>
+    ensures { OnOk result (parts.new ≡ declaration_rule DeclarationRule.NamedNumber parts.old) }
+{
+    parts.skip();
+    let value = parts.expr();
+    parts.put_declaration(
+        alloc,
+        DeclarationPart::Object(Object {
+            constant: true,
+            subtype: None,
+            value: Some(value),
+        }),
+    )
+}
+
+/// `Const = SubInd Init`
+fn apply_constant(alloc: Global, parts: &mut Parts) -> Result<(), Starved>
+    ensures { OnOk result (parts.new ≡ declaration_rule DeclarationRule.Constant parts.old) }
+{
+    let subtype = parts.sub_ind(alloc);
+    let value = parts.optional_expr();
+    parts.put_declaration(
+        alloc,
+        DeclarationPart::Object(Object {
+            constant: true,
+            subtype: Some(subtype),
+            value,
+        }),
+    )
+}
+
 /// Takes the parts of a production from the front, and puts there what the rule makes of them.
 pub fn apply_declaration_rule(
     alloc: Global,
@@ -21,138 +180,19 @@ pub fn apply_declaration_rule(
     ensures { OnOk result (parts.new ≡ declaration_rule rule parts.old) }
 {
     match rule {
-        // Decls = Decl Decls
-        DeclarationRule::Decls => {
-            let decl = parts.decl(alloc);
-            let mut decls = parts.decls(alloc);
-            decls.put_first(decl)?;
-            parts.put_declaration(alloc, DeclarationPart::Decls(decls))
-        }
+        DeclarationRule::Decls => apply_decls(alloc, parts),
         // Decls =
         DeclarationRule::NoDecls => {
             parts.put_declaration(alloc, DeclarationPart::Decls(Chain::new(alloc)))
         }
-        // Decl = type Id is TypeDef ;
-        DeclarationRule::Type => {
-            let start = parts.place();
-            let name = parts.place();
-            parts.skip();
-            let definition = parts.type_def(alloc);
-            let end = parts.place();
-            parts.put_declaration(
-                alloc,
-                DeclarationPart::Decl(Decl {
-                    span: joined(start, end),
-                    form: DeclForm::Type(name, definition),
-                }),
-            )
-        }
-        // Decl = subtype Id is SubInd ;
-        DeclarationRule::Subtype => {
-            let start = parts.place();
-            let name = parts.place();
-            parts.skip();
-            let subtype = parts.sub_ind(alloc);
-            let end = parts.place();
-            parts.put_declaration(
-                alloc,
-                DeclarationPart::Decl(Decl {
-                    span: joined(start, end),
-                    form: DeclForm::Subtype(name, subtype),
-                }),
-            )
-        }
-        // Decl = Id Ids : Obj ;
-        DeclarationRule::Object => {
-            let name = parts.place();
-            let mut names = parts.names(alloc);
-            parts.skip();
-            let object = parts.object();
-            let end = parts.place();
-            names.put_first(name)?;
-            parts.put_declaration(
-                alloc,
-                DeclarationPart::Decl(Decl {
-                    span: joined(name, end),
-                    form: DeclForm::Object(names.into_items(), object),
-                }),
-            )
-        }
-        // Decl = Sub
-        DeclarationRule::DeclSub => {
-            let sub = parts.sub(alloc);
-            parts.put_declaration(
-                alloc,
-                DeclarationPart::Decl(Decl {
-                    span: sub.span,
-                    form: DeclForm::Sub(sub),
-                }),
-            )
-        }
-        // Decl = Pragma
-        DeclarationRule::DeclPragma => {
-            let pragma = parts.pragma(alloc);
-            parts.put_declaration(
-                alloc,
-                DeclarationPart::Decl(Decl {
-                    span: pragma.span,
-                    form: DeclForm::Pragma(pragma),
-                }),
-            )
-        }
-        // Decl = use Id Ids ;
-        DeclarationRule::DeclUse => {
-            let start = parts.place();
-            let name = parts.place();
-            let mut names = parts.names(alloc);
-            let end = parts.place();
-            names.put_first(name)?;
-            parts.put_declaration(
-                alloc,
-                DeclarationPart::Decl(Decl {
-                    span: joined(start, end),
-                    form: DeclForm::Use(names.into_items()),
-                }),
-            )
-        }
-        // Obj = SubInd Init
-        DeclarationRule::Variable => {
-            let subtype = parts.sub_ind(alloc);
-            let value = parts.optional_expr();
-            parts.put_declaration(
-                alloc,
-                DeclarationPart::Object(Object {
-                    constant: false,
-                    subtype: Some(subtype),
-                    value,
-                }),
-            )
-        }
-        // Const = := Expr
-        DeclarationRule::NamedNumber => {
-            parts.skip();
-            let value = parts.expr();
-            parts.put_declaration(
-                alloc,
-                DeclarationPart::Object(Object {
-                    constant: true,
-                    subtype: None,
-                    value: Some(value),
-                }),
-            )
-        }
-        // Const = SubInd Init
-        DeclarationRule::Constant => {
-            let subtype = parts.sub_ind(alloc);
-            let value = parts.optional_expr();
-            parts.put_declaration(
-                alloc,
-                DeclarationPart::Object(Object {
-                    constant: true,
-                    subtype: Some(subtype),
-                    value,
-                }),
-            )
-        }
+        DeclarationRule::Type => apply_type(alloc, parts),
+        DeclarationRule::Subtype => apply_subtype(alloc, parts),
+        DeclarationRule::Object => apply_object(alloc, parts),
+        DeclarationRule::DeclSub => apply_decl_sub(alloc, parts),
+        DeclarationRule::DeclPragma => apply_decl_pragma(alloc, parts),
+        DeclarationRule::DeclUse => apply_decl_use(alloc, parts),
+        DeclarationRule::Variable => apply_variable(alloc, parts),
+        DeclarationRule::NamedNumber => apply_named_number(alloc, parts),
+        DeclarationRule::Constant => apply_constant(alloc, parts),
     }
 }

@@ -13,6 +13,183 @@ use crate::rules::ExpressionRule;
 use grammar_table::Starved;
 use std::alloc::Global;
 
+/// `Expr = Rel Logic | Simple = Term AddMore | Term = Factor MulMore | Factor = Primary Pow`
+fn apply_grouped(alloc: Global, parts: &mut Parts) -> Result<(), Starved>
+    ensures { OnOk result (parts.new ≡ expression_rule ExpressionRule.Grouped parts.old) }
+{
+    let first = parts.expr();
+    let more = parts.operations(alloc);
+    parts.put_expression(alloc, ExpressionPart::Expr(grouped(alloc, first, more)?))
+}
+
+/// `Logic = and AndRest | Logic = or OrRest`
+fn apply_logic(alloc: Global, parts: &mut Parts) -> Result<(), Starved>
+    ensures { OnOk result (parts.new ≡ expression_rule ExpressionRule.Logic parts.old) }
+{
+    let token = parts.token();
+    let tail = parts.logic_tail(alloc);
+    let LogicTail {
+        short,
+        operand,
+        mut more,
+    } = tail;
+    more.put_first(Operation {
+        place: token.span,
+        operator: logic_operator(short, token.kind),
+        operand,
+    })?;
+    parts.put_expression(alloc, ExpressionPart::Operations(more))
+}
+
+/// `AndRest = then Rel ThenMore | OrRest = else Rel ElseMore`
+fn apply_logic_short(alloc: Global, parts: &mut Parts) -> Result<(), Starved>
+    ensures { OnOk result (parts.new ≡ expression_rule ExpressionRule.LogicShort parts.old) }
+{
+    parts.skip();
+    let operand = parts.expr();
+    let more = parts.operations(alloc);
+    parts.put_expression(
+        alloc,
+        ExpressionPart::LogicTail(LogicTail {
+            short: true,
+            operand,
+            more,
+        }),
+    )
+}
+
+/// `AndRest = Rel AndMore | OrRest = Rel OrMore`
+fn apply_logic_plain(alloc: Global, parts: &mut Parts) -> Result<(), Starved>
+    ensures { OnOk result (parts.new ≡ expression_rule ExpressionRule.LogicPlain parts.old) }
+{
+    let operand = parts.expr();
+    let more = parts.operations(alloc);
+    parts.put_expression(
+        alloc,
+        ExpressionPart::LogicTail(LogicTail {
+            short: false,
+            operand,
+            more,
+        }),
+    )
+}
+
+/// `AddMore = + Term AddMore, and the like`
+fn apply_operations(alloc: Global, parts: &mut Parts) -> Result<(), Starved>
+    ensures { OnOk result (parts.new ≡ expression_rule ExpressionRule.Operations parts.old) }
+{
+    let token = parts.token();
+    let operand = parts.expr();
+    let mut more = parts.operations(alloc);
+    more.put_first(Operation {
+        place: token.span,
+        operator: operator_of(token.kind),
+        operand,
+    })?;
+    parts.put_expression(alloc, ExpressionPart::Operations(more))
+}
+
+/// `ThenMore = and then Rel ThenMore | ElseMore = or else Rel ElseMore`
+fn apply_short_operations(alloc: Global, parts: &mut Parts) -> Result<(), Starved>
+    ensures { OnOk result (parts.new ≡ expression_rule ExpressionRule.ShortOperations parts.old) }
+{
+    let token = parts.token();
+    parts.skip();
+    let operand = parts.expr();
+    let mut more = parts.operations(alloc);
+    more.put_first(Operation {
+        place: token.span,
+        operator: short_operator_of(token.kind),
+        operand,
+    })?;
+    parts.put_expression(alloc, ExpressionPart::Operations(more))
+}
+
+/// `Pow = ** Primary`
+fn apply_power(alloc: Global, parts: &mut Parts) -> Result<(), Starved>
+    ensures { OnOk result (parts.new ≡ expression_rule ExpressionRule.Power parts.old) }
+{
+    let token = parts.token();
+    let operand = parts.expr();
+    let mut more = Chain::new(alloc);
+    more.put_first(Operation {
+        place: token.span,
+        operator: operator_of(token.kind),
+        operand,
+    })?;
+    parts.put_expression(alloc, ExpressionPart::Operations(more))
+}
+
+/// `Rel = Simple RelTail`
+fn apply_relation(alloc: Global, parts: &mut Parts) -> Result<(), Starved>
+    ensures { OnOk result (parts.new ≡ expression_rule ExpressionRule.Relation parts.old) }
+{
+    let first = parts.expr();
+    let tail = parts.relation_tail();
+    parts.put_expression(alloc, ExpressionPart::Expr(related(alloc, first, tail)?))
+}
+
+/// `RelTail = RelOp Simple`
+fn apply_compare(alloc: Global, parts: &mut Parts) -> Result<(), Starved>
+    ensures { OnOk result (parts.new ≡ expression_rule ExpressionRule.Compare parts.old) }
+{
+    let token = parts.token();
+    let operand = parts.expr();
+    parts.put_expression(
+        alloc,
+        ExpressionPart::RelationTail(RelationTail::Compare(Operation {
+            place: token.span,
+            operator: operator_of(token.kind),
+            operand,
+        })),
+    )
+}
+
+/// `RelTail = in Range`
+fn apply_in(alloc: Global, parts: &mut Parts) -> Result<(), Starved>
+    ensures { OnOk result (parts.new ≡ expression_rule ExpressionRule.In parts.old) }
+{
+    let place = parts.place();
+    let range = parts.range();
+    parts.put_expression(
+        alloc,
+        ExpressionPart::RelationTail(RelationTail::Member(place, false, range)),
+    )
+}
+
+/// `RelTail = not in Range`
+fn apply_not_in(alloc: Global, parts: &mut Parts) -> Result<(), Starved>
+    ensures { OnOk result (parts.new ≡ expression_rule ExpressionRule.NotIn parts.old) }
+{
+    let place = parts.place();
+    parts.skip();
+    let range = parts.range();
+    parts.put_expression(
+        alloc,
+        ExpressionPart::RelationTail(RelationTail::Member(place, true, range)),
+    )
+}
+
+/// `Simple = + Term AddMore | Simple = - Term AddMore`
+fn apply_signed(alloc: Global, parts: &mut Parts) -> Result<(), Starved>
+    ensures { OnOk result (parts.new ≡ expression_rule ExpressionRule.Signed parts.old) }
+{
+    let token = parts.token();
+    let operand = parts.expr();
+    let more = parts.operations(alloc);
+    let first = unary(alloc, token, operand)?;
+    parts.put_expression(alloc, ExpressionPart::Expr(grouped(alloc, first, more)?))
+}
+
+/// `Factor = abs Primary | Factor = not Primary`
+fn apply_prefixed(alloc: Global, parts: &mut Parts) -> Result<(), Starved>
+    ensures { OnOk result (parts.new ≡ expression_rule ExpressionRule.Prefixed parts.old) }
+{
+    let token = parts.token();
+    let operand = parts.expr();
+    parts.put_expression(alloc, ExpressionPart::Expr(unary(alloc, token, operand)?))
+}
+
 /// Takes the parts of a production from the front, and puts there what the rule makes of them.
 pub fn apply_expression_rule(
     alloc: Global,
@@ -22,151 +199,26 @@ pub fn apply_expression_rule(
     ensures { OnOk result (parts.new ≡ expression_rule rule parts.old) }
 {
     match rule {
-        // Expr = Rel Logic | Simple = Term AddMore | Term = Factor MulMore | Factor = Primary Pow
-        ExpressionRule::Grouped => {
-            let first = parts.expr();
-            let more = parts.operations(alloc);
-            parts.put_expression(alloc, ExpressionPart::Expr(grouped(alloc, first, more)?))
-        }
-        // Logic = and AndRest | Logic = or OrRest
-        ExpressionRule::Logic => {
-            let token = parts.token();
-            let tail = parts.logic_tail(alloc);
-            let LogicTail {
-                short,
-                operand,
-                mut more,
-            } = tail;
-            more.put_first(Operation {
-                place: token.span,
-                operator: logic_operator(short, token.kind),
-                operand,
-            })?;
-            parts.put_expression(alloc, ExpressionPart::Operations(more))
-        }
-        // AndRest = then Rel ThenMore | OrRest = else Rel ElseMore
-        ExpressionRule::LogicShort => {
-            parts.skip();
-            let operand = parts.expr();
-            let more = parts.operations(alloc);
-            parts.put_expression(
-                alloc,
-                ExpressionPart::LogicTail(LogicTail {
-                    short: true,
-                    operand,
-                    more,
-                }),
-            )
-        }
-        // AndRest = Rel AndMore | OrRest = Rel OrMore
-        ExpressionRule::LogicPlain => {
-            let operand = parts.expr();
-            let more = parts.operations(alloc);
-            parts.put_expression(
-                alloc,
-                ExpressionPart::LogicTail(LogicTail {
-                    short: false,
-                    operand,
-                    more,
-                }),
-            )
-        }
-        // AddMore = + Term AddMore, and the like
-        ExpressionRule::Operations => {
-            let token = parts.token();
-            let operand = parts.expr();
-            let mut more = parts.operations(alloc);
-            more.put_first(Operation {
-                place: token.span,
-                operator: operator_of(token.kind),
-                operand,
-            })?;
-            parts.put_expression(alloc, ExpressionPart::Operations(more))
-        }
-        // ThenMore = and then Rel ThenMore | ElseMore = or else Rel ElseMore
-        ExpressionRule::ShortOperations => {
-            let token = parts.token();
-            parts.skip();
-            let operand = parts.expr();
-            let mut more = parts.operations(alloc);
-            more.put_first(Operation {
-                place: token.span,
-                operator: short_operator_of(token.kind),
-                operand,
-            })?;
-            parts.put_expression(alloc, ExpressionPart::Operations(more))
-        }
+        ExpressionRule::Grouped => apply_grouped(alloc, parts),
+        ExpressionRule::Logic => apply_logic(alloc, parts),
+        ExpressionRule::LogicShort => apply_logic_short(alloc, parts),
+        ExpressionRule::LogicPlain => apply_logic_plain(alloc, parts),
+        ExpressionRule::Operations => apply_operations(alloc, parts),
+        ExpressionRule::ShortOperations => apply_short_operations(alloc, parts),
         // AddMore =, and the like
         ExpressionRule::NoOperations => {
             parts.put_expression(alloc, ExpressionPart::Operations(Chain::new(alloc)))
         }
-        // Pow = ** Primary
-        ExpressionRule::Power => {
-            let token = parts.token();
-            let operand = parts.expr();
-            let mut more = Chain::new(alloc);
-            more.put_first(Operation {
-                place: token.span,
-                operator: operator_of(token.kind),
-                operand,
-            })?;
-            parts.put_expression(alloc, ExpressionPart::Operations(more))
-        }
-        // Rel = Simple RelTail
-        ExpressionRule::Relation => {
-            let first = parts.expr();
-            let tail = parts.relation_tail();
-            parts.put_expression(alloc, ExpressionPart::Expr(related(alloc, first, tail)?))
-        }
-        // RelTail = RelOp Simple
-        ExpressionRule::Compare => {
-            let token = parts.token();
-            let operand = parts.expr();
-            parts.put_expression(
-                alloc,
-                ExpressionPart::RelationTail(RelationTail::Compare(Operation {
-                    place: token.span,
-                    operator: operator_of(token.kind),
-                    operand,
-                })),
-            )
-        }
-        // RelTail = in Range
-        ExpressionRule::In => {
-            let place = parts.place();
-            let range = parts.range();
-            parts.put_expression(
-                alloc,
-                ExpressionPart::RelationTail(RelationTail::Member(place, false, range)),
-            )
-        }
-        // RelTail = not in Range
-        ExpressionRule::NotIn => {
-            let place = parts.place();
-            parts.skip();
-            let range = parts.range();
-            parts.put_expression(
-                alloc,
-                ExpressionPart::RelationTail(RelationTail::Member(place, true, range)),
-            )
-        }
+        ExpressionRule::Power => apply_power(alloc, parts),
+        ExpressionRule::Relation => apply_relation(alloc, parts),
+        ExpressionRule::Compare => apply_compare(alloc, parts),
+        ExpressionRule::In => apply_in(alloc, parts),
+        ExpressionRule::NotIn => apply_not_in(alloc, parts),
         // RelTail =
         ExpressionRule::NoRelation => {
             parts.put_expression(alloc, ExpressionPart::RelationTail(RelationTail::Nothing))
         }
-        // Simple = + Term AddMore | Simple = - Term AddMore
-        ExpressionRule::Signed => {
-            let token = parts.token();
-            let operand = parts.expr();
-            let more = parts.operations(alloc);
-            let first = unary(alloc, token, operand)?;
-            parts.put_expression(alloc, ExpressionPart::Expr(grouped(alloc, first, more)?))
-        }
-        // Factor = abs Primary | Factor = not Primary
-        ExpressionRule::Prefixed => {
-            let token = parts.token();
-            let operand = parts.expr();
-            parts.put_expression(alloc, ExpressionPart::Expr(unary(alloc, token, operand)?))
-        }
+        ExpressionRule::Signed => apply_signed(alloc, parts),
+        ExpressionRule::Prefixed => apply_prefixed(alloc, parts),
     }
 }

@@ -13,6 +13,189 @@ use ada_syntax::{Aspect, Body, Mode, Param, Pragma, Sub};
 use grammar_table::Starved;
 use std::alloc::Global;
 
+/// `Sub = procedure Id Params Asp Body`
+fn apply_procedure(alloc: Global, parts: &mut Parts) -> Result<(), Starved>
+    ensures { OnOk result (parts.new ≡ subprogram_rule SubprogramRule.Procedure parts.old) }
+{
+    let start = parts.place();
+    let name = parts.place();
+    let params = parts.params(alloc);
+    let aspects = parts.aspects(alloc);
+    let body = parts.body();
+    parts.put_declaration(
+        alloc,
+        DeclarationPart::Sub(Sub {
+            span: joined(start, body.end),
+            name,
+            params: params.into_items(),
+            result: None,
+            aspects: aspects.into_items(),
+            body: body.value,
+        }),
+    )
+}
+
+/// `Sub = function Id Params return Name Asp Body`
+fn apply_function(alloc: Global, parts: &mut Parts) -> Result<(), Starved>
+    ensures { OnOk result (parts.new ≡ subprogram_rule SubprogramRule.Function parts.old) }
+{
+    let start = parts.place();
+    let name = parts.place();
+    let params = parts.params(alloc);
+    parts.skip();
+    let mark = parts.name(alloc);
+    let aspects = parts.aspects(alloc);
+    let body = parts.body();
+    parts.put_declaration(
+        alloc,
+        DeclarationPart::Sub(Sub {
+            span: joined(start, body.end),
+            name,
+            params: params.into_items(),
+            result: Some(mark),
+            aspects: aspects.into_items(),
+            body: body.value,
+        }),
+    )
+}
+
+/// `Params = ( Param ParMore )`
+fn apply_param_group(alloc: Global, parts: &mut Parts) -> Result<(), Starved>
+    ensures { OnOk result (parts.new ≡ subprogram_rule SubprogramRule.ParamGroup parts.old) }
+{
+    parts.skip();
+    let param = parts.param(alloc);
+    let mut params = parts.params(alloc);
+    parts.skip();
+    params.put_first(param)?;
+    parts.put_subprogram(alloc, SubprogramPart::Params(params))
+}
+
+/// `ParMore = ; Param ParMore`
+fn apply_params(alloc: Global, parts: &mut Parts) -> Result<(), Starved>
+    ensures { OnOk result (parts.new ≡ subprogram_rule SubprogramRule.Params parts.old) }
+{
+    parts.skip();
+    let param = parts.param(alloc);
+    let mut params = parts.params(alloc);
+    params.put_first(param)?;
+    parts.put_subprogram(alloc, SubprogramPart::Params(params))
+}
+
+/// `Param = Id Ids : Mode SubInd`
+fn apply_param(alloc: Global, parts: &mut Parts) -> Result<(), Starved>
+    ensures { OnOk result (parts.new ≡ subprogram_rule SubprogramRule.Param parts.old) }
+{
+    let name = parts.place();
+    let mut names = parts.names(alloc);
+    parts.skip();
+    let mode = parts.mode();
+    let subtype = parts.sub_ind(alloc);
+    names.put_first(name)?;
+    parts.put_subprogram(
+        alloc,
+        SubprogramPart::Param(Param {
+            span: joined(name, subtype.span),
+            names: names.into_items(),
+            mode,
+            subtype,
+        }),
+    )
+}
+
+/// `Mode = out`
+fn apply_mode_out(alloc: Global, parts: &mut Parts) -> Result<(), Starved>
+    ensures { OnOk result (parts.new ≡ subprogram_rule SubprogramRule.ModeOut parts.old) }
+{
+    parts.skip();
+    parts.put_subprogram(alloc, SubprogramPart::Mode(Mode::Out))
+}
+
+/// `InOut = out`
+fn apply_mode_in_out(alloc: Global, parts: &mut Parts) -> Result<(), Starved>
+    ensures { OnOk result (parts.new ≡ subprogram_rule SubprogramRule.ModeInOut parts.old) }
+{
+    parts.skip();
+    parts.put_subprogram(alloc, SubprogramPart::Mode(Mode::InOut))
+}
+
+/// `Body = ;`
+fn apply_no_body(alloc: Global, parts: &mut Parts) -> Result<(), Starved>
+    ensures { OnOk result (parts.new ≡ subprogram_rule SubprogramRule.NoBody parts.old) }
+{
+    let end = parts.place();
+    parts.put_declaration(alloc, DeclarationPart::Body(Ended { value: None, end }))
+}
+
+/// `Body = is Decls begin Stmts end EndId ;`
+fn apply_some_body(alloc: Global, parts: &mut Parts) -> Result<(), Starved>
+    ensures { OnOk result (parts.new ≡ subprogram_rule SubprogramRule.SomeBody parts.old) }
+{
+    parts.skip();
+    let decls = parts.decls(alloc);
+    parts.skip();
+    let stmts = parts.stmts(alloc);
+    parts.skip();
+    let end_name = parts.end_name();
+    let end = parts.place();
+    parts.put_declaration(
+        alloc,
+        DeclarationPart::Body(Ended {
+            value: Some(Body {
+                declarations: decls.into_items(),
+                statements: stmts.into_items(),
+                end_name,
+            }),
+            end,
+        }),
+    )
+}
+
+/// `Asp = with Aspect AspMore | AspMore = , Aspect AspMore`
+fn apply_aspects(alloc: Global, parts: &mut Parts) -> Result<(), Starved>
+    ensures { OnOk result (parts.new ≡ subprogram_rule SubprogramRule.Aspects parts.old) }
+{
+    parts.skip();
+    let aspect = parts.aspect();
+    let mut aspects = parts.aspects(alloc);
+    aspects.put_first(aspect)?;
+    parts.put_subprogram(alloc, SubprogramPart::Aspects(aspects))
+}
+
+/// `Aspect = Id AspVal`
+fn apply_aspect(alloc: Global, parts: &mut Parts) -> Result<(), Starved>
+    ensures { OnOk result (parts.new ≡ subprogram_rule SubprogramRule.Aspect parts.old) }
+{
+    let name = parts.place();
+    let value = parts.optional_item();
+    parts.put_subprogram(
+        alloc,
+        SubprogramPart::Aspect(Aspect {
+            span: joined(name, item_end(&value, name)),
+            name,
+            value,
+        }),
+    )
+}
+
+/// `Pragma = pragma Id PragArg ;`
+fn apply_pragma(alloc: Global, parts: &mut Parts) -> Result<(), Starved>
+    ensures { OnOk result (parts.new ≡ subprogram_rule SubprogramRule.Pragma parts.old) }
+{
+    let start = parts.place();
+    let name = parts.place();
+    let args = parts.args(alloc);
+    let end = parts.place();
+    parts.put_declaration(
+        alloc,
+        DeclarationPart::Pragma(Pragma {
+            span: joined(start, end),
+            name,
+            args: args.into_items(),
+        }),
+    )
+}
+
 /// Takes the parts of a production from the front, and puts there what the rule makes of them.
 pub fn apply_subprogram_rule(
     alloc: Global,
@@ -22,166 +205,31 @@ pub fn apply_subprogram_rule(
     ensures { OnOk result (parts.new ≡ subprogram_rule rule parts.old) }
 {
     match rule {
-        // Sub = procedure Id Params Asp Body
-        SubprogramRule::Procedure => {
-            let start = parts.place();
-            let name = parts.place();
-            let params = parts.params(alloc);
-            let aspects = parts.aspects(alloc);
-            let body = parts.body();
-            parts.put_declaration(
-                alloc,
-                DeclarationPart::Sub(Sub {
-                    span: joined(start, body.end),
-                    name,
-                    params: params.into_items(),
-                    result: None,
-                    aspects: aspects.into_items(),
-                    body: body.value,
-                }),
-            )
-        }
-        // Sub = function Id Params return Name Asp Body
-        SubprogramRule::Function => {
-            let start = parts.place();
-            let name = parts.place();
-            let params = parts.params(alloc);
-            parts.skip();
-            let mark = parts.name(alloc);
-            let aspects = parts.aspects(alloc);
-            let body = parts.body();
-            parts.put_declaration(
-                alloc,
-                DeclarationPart::Sub(Sub {
-                    span: joined(start, body.end),
-                    name,
-                    params: params.into_items(),
-                    result: Some(mark),
-                    aspects: aspects.into_items(),
-                    body: body.value,
-                }),
-            )
-        }
-        // Params = ( Param ParMore )
-        SubprogramRule::ParamGroup => {
-            parts.skip();
-            let param = parts.param(alloc);
-            let mut params = parts.params(alloc);
-            parts.skip();
-            params.put_first(param)?;
-            parts.put_subprogram(alloc, SubprogramPart::Params(params))
-        }
+        SubprogramRule::Procedure => apply_procedure(alloc, parts),
+        SubprogramRule::Function => apply_function(alloc, parts),
+        SubprogramRule::ParamGroup => apply_param_group(alloc, parts),
         // Params = | ParMore =
         SubprogramRule::NoParams => {
             parts.put_subprogram(alloc, SubprogramPart::Params(Chain::new(alloc)))
         }
-        // ParMore = ; Param ParMore
-        SubprogramRule::Params => {
-            parts.skip();
-            let param = parts.param(alloc);
-            let mut params = parts.params(alloc);
-            params.put_first(param)?;
-            parts.put_subprogram(alloc, SubprogramPart::Params(params))
-        }
-        // Param = Id Ids : Mode SubInd
-        SubprogramRule::Param => {
-            let name = parts.place();
-            let mut names = parts.names(alloc);
-            parts.skip();
-            let mode = parts.mode();
-            let subtype = parts.sub_ind(alloc);
-            names.put_first(name)?;
-            parts.put_subprogram(
-                alloc,
-                SubprogramPart::Param(Param {
-                    span: joined(name, subtype.span),
-                    names: names.into_items(),
-                    mode,
-                    subtype,
-                }),
-            )
-        }
-        // Mode = out
-        SubprogramRule::ModeOut => {
-            parts.skip();
-            parts.put_subprogram(alloc, SubprogramPart::Mode(Mode::Out))
-        }
+        SubprogramRule::Params => apply_params(alloc, parts),
+        SubprogramRule::Param => apply_param(alloc, parts),
+        SubprogramRule::ModeOut => apply_mode_out(alloc, parts),
         // Mode =
         SubprogramRule::ModeUnstated => {
             parts.put_subprogram(alloc, SubprogramPart::Mode(Mode::Unstated))
         }
-        // InOut = out
-        SubprogramRule::ModeInOut => {
-            parts.skip();
-            parts.put_subprogram(alloc, SubprogramPart::Mode(Mode::InOut))
-        }
+        SubprogramRule::ModeInOut => apply_mode_in_out(alloc, parts),
         // InOut =
         SubprogramRule::ModeIn => { parts.put_subprogram(alloc, SubprogramPart::Mode(Mode::In)) }
-        // Body = ;
-        SubprogramRule::NoBody => {
-            let end = parts.place();
-            parts.put_declaration(alloc, DeclarationPart::Body(Ended { value: None, end }))
-        }
-        // Body = is Decls begin Stmts end EndId ;
-        SubprogramRule::SomeBody => {
-            parts.skip();
-            let decls = parts.decls(alloc);
-            parts.skip();
-            let stmts = parts.stmts(alloc);
-            parts.skip();
-            let end_name = parts.end_name();
-            let end = parts.place();
-            parts.put_declaration(
-                alloc,
-                DeclarationPart::Body(Ended {
-                    value: Some(Body {
-                        declarations: decls.into_items(),
-                        statements: stmts.into_items(),
-                        end_name,
-                    }),
-                    end,
-                }),
-            )
-        }
-        // Asp = with Aspect AspMore | AspMore = , Aspect AspMore
-        SubprogramRule::Aspects => {
-            parts.skip();
-            let aspect = parts.aspect();
-            let mut aspects = parts.aspects(alloc);
-            aspects.put_first(aspect)?;
-            parts.put_subprogram(alloc, SubprogramPart::Aspects(aspects))
-        }
+        SubprogramRule::NoBody => apply_no_body(alloc, parts),
+        SubprogramRule::SomeBody => apply_some_body(alloc, parts),
+        SubprogramRule::Aspects => apply_aspects(alloc, parts),
         // Asp = | AspMore =
         SubprogramRule::NoAspects => {
             parts.put_subprogram(alloc, SubprogramPart::Aspects(Chain::new(alloc)))
         }
-        // Aspect = Id AspVal
-        SubprogramRule::Aspect => {
-            let name = parts.place();
-            let value = parts.optional_item();
-            parts.put_subprogram(
-                alloc,
-                SubprogramPart::Aspect(Aspect {
-                    span: joined(name, item_end(&value, name)),
-                    name,
-                    value,
-                }),
-            )
-        }
-        // Pragma = pragma Id PragArg ;
-        SubprogramRule::Pragma => {
-            let start = parts.place();
-            let name = parts.place();
-            let args = parts.args(alloc);
-            let end = parts.place();
-            parts.put_declaration(
-                alloc,
-                DeclarationPart::Pragma(Pragma {
-                    span: joined(start, end),
-                    name,
-                    args: args.into_items(),
-                }),
-            )
-        }
+        SubprogramRule::Aspect => apply_aspect(alloc, parts),
+        SubprogramRule::Pragma => apply_pragma(alloc, parts),
     }
 }

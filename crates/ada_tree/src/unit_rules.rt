@@ -12,75 +12,201 @@ use ada_syntax::{ContextItem, Package, PackageBody, SourceUnit, Unit, UnitForm};
 use grammar_table::Starved;
 use std::alloc::Global;
 
+/// `File = Start Unit`
+fn apply_file(alloc: Global, parts: &mut Parts) -> Result<(), Starved>
+    ensures { OnOk result (parts.new ≡ unit_rule UnitRule.File parts.old) }
+{
+    let context = parts.context(alloc);
+    let unit = parts.unit(alloc);
+    parts.put_unit(
+        alloc,
+        UnitPart::SourceUnit(SourceUnit {
+            span: joined(context.edge.unwrap_or(unit.span), unit.span),
+            context: context.value.into_items(),
+            unit,
+        }),
+    )
+}
+
+/// `Start = with Id Ids ; Start`
+fn apply_context_with(alloc: Global, parts: &mut Parts) -> Result<(), Starved>
+    ensures { OnOk result (parts.new ≡ unit_rule UnitRule.ContextWith parts.old) }
+{
+    let start = parts.place();
+    let name = parts.place();
+    let mut names = parts.names(alloc);
+    parts.skip();
+    let context = parts.context(alloc);
+    names.put_first(name)?;
+    let mut value = context.value;
+    value.put_first(ContextItem::With(names.into_items()))?;
+    parts.put_unit(
+        alloc,
+        UnitPart::Context(Edged {
+            value,
+            edge: Some(start),
+        }),
+    )
+}
+
+/// `Start = use Id Ids ; Start`
+fn apply_context_use(alloc: Global, parts: &mut Parts) -> Result<(), Starved>
+    ensures { OnOk result (parts.new ≡ unit_rule UnitRule.ContextUse parts.old) }
+{
+    let start = parts.place();
+    let name = parts.place();
+    let mut names = parts.names(alloc);
+    parts.skip();
+    let context = parts.context(alloc);
+    names.put_first(name)?;
+    let mut value = context.value;
+    value.put_first(ContextItem::Use(names.into_items()))?;
+    parts.put_unit(
+        alloc,
+        UnitPart::Context(Edged {
+            value,
+            edge: Some(start),
+        }),
+    )
+}
+
+/// `Start = Pragma Start`
+fn apply_context_pragma(alloc: Global, parts: &mut Parts) -> Result<(), Starved>
+    ensures { OnOk result (parts.new ≡ unit_rule UnitRule.ContextPragma parts.old) }
+{
+    let pragma = parts.pragma(alloc);
+    let context = parts.context(alloc);
+    let start = pragma.span;
+    let mut value = context.value;
+    value.put_first(ContextItem::Pragma(pragma))?;
+    parts.put_unit(
+        alloc,
+        UnitPart::Context(Edged {
+            value,
+            edge: Some(start),
+        }),
+    )
+}
+
+/// `Ids = , Id Ids`
+fn apply_names(alloc: Global, parts: &mut Parts) -> Result<(), Starved>
+    ensures { OnOk result (parts.new ≡ unit_rule UnitRule.Names parts.old) }
+{
+    parts.skip();
+    let name = parts.place();
+    let mut names = parts.names(alloc);
+    names.put_first(name)?;
+    parts.put_unit(alloc, UnitPart::Names(names))
+}
+
+/// `Unit = package Pack`
+fn apply_unit_package(alloc: Global, parts: &mut Parts) -> Result<(), Starved>
+    ensures { OnOk result (parts.new ≡ unit_rule UnitRule.UnitPackage parts.old) }
+{
+    let start = parts.place();
+    let Unit { span, form } = parts.unit(alloc);
+    parts.put_unit(
+        alloc,
+        UnitPart::Unit(Unit {
+            span: joined(start, span),
+            form,
+        }),
+    )
+}
+
+/// `Unit = Sub`
+fn apply_unit_sub(alloc: Global, parts: &mut Parts) -> Result<(), Starved>
+    ensures { OnOk result (parts.new ≡ unit_rule UnitRule.UnitSub parts.old) }
+{
+    let sub = parts.sub(alloc);
+    parts.put_unit(
+        alloc,
+        UnitPart::Unit(Unit {
+            span: sub.span,
+            form: UnitForm::Sub(sub),
+        }),
+    )
+}
+
+/// `Pack = body Id Asp is Decls end EndId ;`
+fn apply_package_body(alloc: Global, parts: &mut Parts) -> Result<(), Starved>
+    ensures { OnOk result (parts.new ≡ unit_rule UnitRule.PackageBody parts.old) }
+{
+    let start = parts.place();
+    let name = parts.place();
+    let aspects = parts.aspects(alloc);
+    parts.skip();
+    let decls = parts.decls(alloc);
+    parts.skip();
+    let end_name = parts.end_name();
+    let end = parts.place();
+    parts.put_unit(
+        alloc,
+        UnitPart::Unit(Unit {
+            span: joined(start, end),
+            form: UnitForm::PackageBody(PackageBody {
+                name,
+                aspects: aspects.into_items(),
+                declarations: decls.into_items(),
+                end_name,
+            }),
+        }),
+    )
+}
+
+/// `Pack = Id Asp is Decls Priv end EndId ;`
+fn apply_package_spec(alloc: Global, parts: &mut Parts) -> Result<(), Starved>
+    ensures { OnOk result (parts.new ≡ unit_rule UnitRule.PackageSpec parts.old) }
+{
+    let name = parts.place();
+    let aspects = parts.aspects(alloc);
+    parts.skip();
+    let decls = parts.decls(alloc);
+    let private = parts.private();
+    parts.skip();
+    let end_name = parts.end_name();
+    let end = parts.place();
+    parts.put_unit(
+        alloc,
+        UnitPart::Unit(Unit {
+            span: joined(name, end),
+            form: UnitForm::Package(Package {
+                name,
+                aspects: aspects.into_items(),
+                declarations: decls.into_items(),
+                private,
+                end_name,
+            }),
+        }),
+    )
+}
+
+/// `Priv = private Decls`
+fn apply_some_private(alloc: Global, parts: &mut Parts) -> Result<(), Starved>
+    ensures { OnOk result (parts.new ≡ unit_rule UnitRule.SomePrivate parts.old) }
+{
+    parts.skip();
+    let decls = parts.decls(alloc);
+    parts.put_unit(alloc, UnitPart::Private(Some(decls.into_items())))
+}
+
+/// `EndId = Id`
+fn apply_some_end_name(alloc: Global, parts: &mut Parts) -> Result<(), Starved>
+    ensures { OnOk result (parts.new ≡ unit_rule UnitRule.SomeEndName parts.old) }
+{
+    let name = parts.place();
+    parts.put_unit(alloc, UnitPart::EndName(Some(name)))
+}
+
 /// Takes the parts of a production from the front, and puts there what the rule makes of them.
 pub fn apply_unit_rule(alloc: Global, rule: UnitRule, parts: &mut Parts) -> Result<(), Starved>
     ensures { OnOk result (parts.new ≡ unit_rule rule parts.old) }
 {
     match rule {
-        // File = Start Unit
-        UnitRule::File => {
-            let context = parts.context(alloc);
-            let unit = parts.unit(alloc);
-            parts.put_unit(
-                alloc,
-                UnitPart::SourceUnit(SourceUnit {
-                    span: joined(context.edge.unwrap_or(unit.span), unit.span),
-                    context: context.value.into_items(),
-                    unit,
-                }),
-            )
-        }
-        // Start = with Id Ids ; Start
-        UnitRule::ContextWith => {
-            let start = parts.place();
-            let name = parts.place();
-            let mut names = parts.names(alloc);
-            parts.skip();
-            let context = parts.context(alloc);
-            names.put_first(name)?;
-            let mut value = context.value;
-            value.put_first(ContextItem::With(names.into_items()))?;
-            parts.put_unit(
-                alloc,
-                UnitPart::Context(Edged {
-                    value,
-                    edge: Some(start),
-                }),
-            )
-        }
-        // Start = use Id Ids ; Start
-        UnitRule::ContextUse => {
-            let start = parts.place();
-            let name = parts.place();
-            let mut names = parts.names(alloc);
-            parts.skip();
-            let context = parts.context(alloc);
-            names.put_first(name)?;
-            let mut value = context.value;
-            value.put_first(ContextItem::Use(names.into_items()))?;
-            parts.put_unit(
-                alloc,
-                UnitPart::Context(Edged {
-                    value,
-                    edge: Some(start),
-                }),
-            )
-        }
-        // Start = Pragma Start
-        UnitRule::ContextPragma => {
-            let pragma = parts.pragma(alloc);
-            let context = parts.context(alloc);
-            let start = pragma.span;
-            let mut value = context.value;
-            value.put_first(ContextItem::Pragma(pragma))?;
-            parts.put_unit(
-                alloc,
-                UnitPart::Context(Edged {
-                    value,
-                    edge: Some(start),
-                }),
-            )
-        }
+        UnitRule::File => apply_file(alloc, parts),
+        UnitRule::ContextWith => apply_context_with(alloc, parts),
+        UnitRule::ContextUse => apply_context_use(alloc, parts),
+        UnitRule::ContextPragma => apply_context_pragma(alloc, parts),
         // Start =
         UnitRule::NoContext => {
             parts.put_unit(
@@ -91,99 +217,17 @@ pub fn apply_unit_rule(alloc: Global, rule: UnitRule, parts: &mut Parts) -> Resu
                 }),
             )
         }
-        // Ids = , Id Ids
-        UnitRule::Names => {
-            parts.skip();
-            let name = parts.place();
-            let mut names = parts.names(alloc);
-            names.put_first(name)?;
-            parts.put_unit(alloc, UnitPart::Names(names))
-        }
+        UnitRule::Names => apply_names(alloc, parts),
         // Ids =
         UnitRule::NoNames => { parts.put_unit(alloc, UnitPart::Names(Chain::new(alloc))) }
-        // Unit = package Pack
-        UnitRule::UnitPackage => {
-            let start = parts.place();
-            let unit = parts.unit(alloc);
-            parts.put_unit(
-                alloc,
-                UnitPart::Unit(Unit {
-                    span: joined(start, unit.span),
-                    form: unit.form,
-                }),
-            )
-        }
-        // Unit = Sub
-        UnitRule::UnitSub => {
-            let sub = parts.sub(alloc);
-            parts.put_unit(
-                alloc,
-                UnitPart::Unit(Unit {
-                    span: sub.span,
-                    form: UnitForm::Sub(sub),
-                }),
-            )
-        }
-        // Pack = body Id Asp is Decls end EndId ;
-        UnitRule::PackageBody => {
-            let start = parts.place();
-            let name = parts.place();
-            let aspects = parts.aspects(alloc);
-            parts.skip();
-            let decls = parts.decls(alloc);
-            parts.skip();
-            let end_name = parts.end_name();
-            let end = parts.place();
-            parts.put_unit(
-                alloc,
-                UnitPart::Unit(Unit {
-                    span: joined(start, end),
-                    form: UnitForm::PackageBody(PackageBody {
-                        name,
-                        aspects: aspects.into_items(),
-                        declarations: decls.into_items(),
-                        end_name,
-                    }),
-                }),
-            )
-        }
-        // Pack = Id Asp is Decls Priv end EndId ;
-        UnitRule::PackageSpec => {
-            let name = parts.place();
-            let aspects = parts.aspects(alloc);
-            parts.skip();
-            let decls = parts.decls(alloc);
-            let private = parts.private();
-            parts.skip();
-            let end_name = parts.end_name();
-            let end = parts.place();
-            parts.put_unit(
-                alloc,
-                UnitPart::Unit(Unit {
-                    span: joined(name, end),
-                    form: UnitForm::Package(Package {
-                        name,
-                        aspects: aspects.into_items(),
-                        declarations: decls.into_items(),
-                        private,
-                        end_name,
-                    }),
-                }),
-            )
-        }
-        // Priv = private Decls
-        UnitRule::SomePrivate => {
-            parts.skip();
-            let decls = parts.decls(alloc);
-            parts.put_unit(alloc, UnitPart::Private(Some(decls.into_items())))
-        }
+        UnitRule::UnitPackage => apply_unit_package(alloc, parts),
+        UnitRule::UnitSub => apply_unit_sub(alloc, parts),
+        UnitRule::PackageBody => apply_package_body(alloc, parts),
+        UnitRule::PackageSpec => apply_package_spec(alloc, parts),
+        UnitRule::SomePrivate => apply_some_private(alloc, parts),
         // Priv =
         UnitRule::NoPrivate => { parts.put_unit(alloc, UnitPart::Private(None)) }
-        // EndId = Id
-        UnitRule::SomeEndName => {
-            let name = parts.place();
-            parts.put_unit(alloc, UnitPart::EndName(Some(name)))
-        }
+        UnitRule::SomeEndName => apply_some_end_name(alloc, parts),
         // EndId =
         UnitRule::NoEndName => { parts.put_unit(alloc, UnitPart::EndName(None)) }
     }

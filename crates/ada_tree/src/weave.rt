@@ -45,9 +45,9 @@ fn take_tokens(symbols: &mut Symbols, moves: &mut Items<Move>) -> Result<(), Sta
     Ok(())
 }
 
-/// The most symbols that may stand before a parse. Fewer than 200 levels that are open and a thousand subprograms one in
-/// another leave less than this.
-const MOST_SYMBOLS: usize = 10_000;
+/// The most symbols that may stand before a parse. Each subprogram that is open leaves six, so this is what 500 of them leave
+/// with one that holds nothing in the last. A level of the grammar leaves at most ten, so 200 of them leave less.
+const MOST_SYMBOLS: usize = 3_001;
 
 /// Replaces the next phrase by the right side of a production, after the tokens before it.
 fn replace(

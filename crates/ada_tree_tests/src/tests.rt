@@ -489,7 +489,7 @@ fn repeated(alloc: Global, times: usize, parts: [&str; 4]) -> Result<String, All
     Ok(text)
 }
 
-/// Statements without limit and a thousand subprograms one in another are read and let go.
+/// Statements without limit and 500 subprograms one in another are read and let go, and 501 are not.
 #[test]
 fn long_and_deep(rt: HostRuntime) -> Result<(), Fail> {
     let cases = [
@@ -500,9 +500,9 @@ fn long_and_deep(rt: HostRuntime) -> Result<(), Fail> {
             5_000,
         ),
         (
-            1_000,
+            500,
             ["", "procedure P is ", "begin null; end;", ""],
-            31_000,
+            15_500,
             1,
         ),
     ];
@@ -510,5 +510,11 @@ fn long_and_deep(rt: HostRuntime) -> Result<(), Fail> {
         let text = repeated(rt.alloc(), times, parts)?;
         assert!(rt; extent(rt.alloc(), text.as_str()) == Some((end, statements)));
     }
+    let text = repeated(
+        rt.alloc(),
+        501,
+        ["", "procedure P is ", "begin null; end;", ""],
+    )?;
+    assert!(rt; extent(rt.alloc(), text.as_str()) == None);
     Ok(())
 }
