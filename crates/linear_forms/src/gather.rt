@@ -10,10 +10,9 @@ use crate::fault::FormFault;
 use crate::form::Part;
 use crate::numbers::{product, sum};
 use crate::place::{Place, place_of};
-use logic_terms::{Starved, Term};
+use logic_terms::{Starved, Term, precedes};
 use sqlite_items::Boxed;
 use std::alloc::Global;
-use logic_terms::precedes;
 
 /// Adds a coefficient to that at an index, and drops the monomial where the sum is 0.
 fn raise(parts: &mut Vec<Part>, at: usize, coefficient: i128) -> Result<(), FormFault>

@@ -6,9 +6,8 @@ ghost use Rattle.linear_forms.specs.View.{parts as monomials};
 ghost use Rattle.linear_forms.specs.Places.{IsPlace};
 
 use crate::form::Part;
-use logic_terms::{Starved, Term, same_term};
+use logic_terms::{Starved, Term, precedes, same_term};
 use std::alloc::Global;
-use logic_terms::precedes;
 
 /// Where a variable stands, or is to stand.
 #[derive(Clone, Copy, Debug, PartialEq, Eq)]
