@@ -9,7 +9,7 @@ use Rattle.ada_semantics.specs.Outcome.{Res, gives}
 use Rattle.ada_semantics.specs.Store.{full, Store, Frame, set, enter_loop, entered, begin}
 use Rattle.ada_semantics.specs.Operators.{span, chosen_in}
 use Rattle.ada_semantics.specs.Targets.{with_params}
-use Rattle.ada_semantics.specs.Values.{Calls, place_of, value_of, located, passed}
+use Rattle.ada_semantics.specs.Values.{Calls, place_of, value_of}
 use Rattle.ada_semantics.specs.Running.{Stop, goes, leaves, returns, next, holds_at, fitting, numbers_of, variant_check, demanded, moved_since, invariant_kind, Round, again, over, in_loop, Turn, one_turn, after_round, turns_while, turns_over, looped, step_of, action_of, run_of, branch_of, selected}
 use Rattle.ada_semantics.specs.Plain.{condition, finished, ended, one_call, routine_at, call_of, calls_within}
 use Rattle.ada_semantics.specs.Budget.{AnyDepth}

@@ -1,5 +1,5 @@
 -- With more of a budget an evaluation comes to the same, where calls do.
-use Rattle.std.proofs.Common.{◌≡◌, ℕ, zero, suc, ◌+◌, arith, refl, ap, sym, subst, Bool, true, false, List, [], ◌∷◌, Option, Some, None, Ok, Err, Result, ℤ, pos, ◌+ℤ◌}
+use Rattle.std.proofs.Common.{◌≡◌, ℕ, zero, suc, ◌+◌, arith, refl, ap, sym, subst, Bool, true, false, List, Option, Some, None, Ok, Err, Result, ℤ, pos, ◌+ℤ◌}
 use Rattle.ada_values.specs.Value.{Val, number, truth, array, record_of}
 use Rattle.ada_values.specs.declared.place.Place.{Place}
 use Rattle.ada_values.specs.declared.scalars.OpFault.{OpFault}

@@ -9,7 +9,7 @@ use Rattle.ada_semantics.specs.Outcome.{Res, gives, fails, short, unset, bind, w
 use Rattle.ada_semantics.specs.Store.{full, whole, Store, Frame, set, enter_loop, entered, with_globals, begin}
 use Rattle.ada_semantics.specs.Operators.{span, checked, chosen_in}
 use Rattle.ada_semantics.specs.Targets.{Return, Passed, with_params, write}
-use Rattle.ada_semantics.specs.Values.{Calls, place_of, value_of, located, passed}
+use Rattle.ada_semantics.specs.Values.{Calls, place_of, value_of}
 use Rattle.ada_semantics.specs.Running.{Stop, goes, leaves, returns, next, holds_at, fitting, copied_back, came_back, numbers_of, variant_check, demanded, moved_since, invariant_kind, Round, again, over, in_loop, Turn, one_turn, after_round, turns_while, turns_over, truth_at, looped, step_of, action_of, run_of, branch_of, selected}
 use Rattle.ada_semantics.specs.Plain.{plain_run, plain_of, started, given_params, condition, finished, ended, one_call, routine_at, call_of, calls_within}
 use Rattle.ada_semantics.specs.Budget.{Grows, CallsGrow, MoreForCalls, MoreForRuns, Settled}

@@ -1,5 +1,5 @@
 -- The program that is written in the types of the code is the text that was written by hand.
-use Rattle.std.proofs.Common.{◌≡◌, ap, ap₂, sym, subst, ◌∙◌, refl, [], ◌∷◌, None, pos}
+use Rattle.std.proofs.Common.{◌≡◌, ap, ap₂, ◌∙◌, [], ◌∷◌, None, pos}
 use Rattle.ada_values.specs.Scalars.{integer}
 use Rattle.ada_values.specs.Value.{Val, number, value_step}
 use Rattle.ada_values.specs.declared.scalars.Op.TheVariants as op
@@ -13,7 +13,7 @@ use Rattle.typed_units.specs.declared.statements.Stmt.{fold-roll-Stmt}
 use Rattle.typed_units.specs.Syntax as text
 use Rattle.typed_units.specs.Syntax.{Ex, at, read, present, param, static, op2, binary, target, here, st, assign}
 use Rattle.typed_units.specs.View.{expr, expr_step, stmt, stmt_step, text_of}
-use Rattle.ada_semantics.specs.Plain.{Plain, plain}
+use Rattle.ada_semantics.specs.Plain.{plain}
 use Rattle.ada_semantics.specs.Cases.{int, ends_with}
 use Rattle.ada_semantics.specs.Cases.Starts.{x_plus, plus_at, one_at, assigned_at, x_written, one_written, sum_written, stmt_written, integers_of, inc_written, inc_routine, inc_seen}
 

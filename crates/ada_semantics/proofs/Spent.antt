@@ -1,5 +1,5 @@
 -- No evaluation leaves more of the budget than it was given, where no call does.
-use Rattle.std.proofs.Common.{ℕ, zero, suc, ◌≤◌, arith, Bool, true, false, List, [], ◌∷◌, Option, Some, None, Ok, Err, Result, ℤ, pos, ◌+ℤ◌}
+use Rattle.std.proofs.Common.{ℕ, zero, suc, ◌≤◌, arith, Bool, true, false, List, Option, Some, None, Ok, Err, Result, ℤ, pos, ◌+ℤ◌}
 use Rattle.ada_values.specs.Value.{Val, number, truth, array, record_of}
 use Rattle.ada_values.specs.declared.place.Place.{Place}
 use Rattle.ada_values.specs.declared.scalars.OpFault.{OpFault}

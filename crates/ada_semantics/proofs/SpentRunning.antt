@@ -1,6 +1,6 @@
 -- No run of statements and no call leaves more of the budget than it was given.
 use Rattle.std.proofs.Common.{ℕ, zero, suc, List, [], ◌∷◌, Bool, true, ◌||◌, Option, Some, None, ℤ, pos, negsuc, ◌+ℤ◌}
-use Rattle.ada_values.specs.Value.{Val, number}
+use Rattle.ada_values.specs.Value.{number}
 use Rattle.ada_values.specs.declared.place.Place.{Place}
 use Rattle.typed_units.specs.declared.checks.CheckKind.{CheckKind}
 use Rattle.typed_units.specs.declared.checks.CheckKind.TheVariants as kind

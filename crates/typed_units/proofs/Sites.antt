@@ -1,10 +1,9 @@
 -- Sites that are the same are equal, and their order is a strict one.
-use Rattle.std.proofs.Common.{◌≡◌, ℕ, zero, suc, arith, refl, ap, sym, ◌∙◌, Bool, true, false, ◌==◌, ◌&&◌, ◌||◌, nat_lt}
-use Rattle.ada_values.specs.declared.place.Place.{Place}
+use Rattle.std.proofs.Common.{◌≡◌, ℕ, zero, suc, arith, refl, ap, sym, ◌∙◌, Bool, true, false, nat_lt}
 use Rattle.typed_units.specs.declared.checks.CheckKind.{CheckKind}
 use Rattle.typed_units.specs.declared.checks.CheckKind.TheVariants as kind
 use Rattle.typed_units.specs.declared.checks.SiteKey.{SiteKey}
-use Rattle.typed_units.specs.Sites.{first_then, same_place, kind_number, same_site, site_before}
+use Rattle.typed_units.specs.Sites.{first_then, kind_number, same_site, site_before}
 
 pub same_itself : (c : SiteKey) → same_site c c ≡ true
 same_itself c = grind arith

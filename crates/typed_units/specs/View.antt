@@ -6,8 +6,6 @@ use Rattle.ada_values.specs.declared.shapes.Shape.{Shape}
 use Rattle.ada_values.specs.declared.shapes.Shape.TheVariants as shape
 use Rattle.typed_units.specs.declared.operators.Object.{Object}
 use Rattle.typed_units.specs.declared.operators.Object.TheVariants as object
-use Rattle.typed_units.specs.declared.expressions.Fitted.{Fitted}
-use Rattle.typed_units.specs.declared.expressions.Indexed.{Indexed}
 use Rattle.typed_units.specs.declared.expressions.Step.{Step}
 use Rattle.typed_units.specs.declared.expressions.Step.TheVariants as step
 use Rattle.typed_units.specs.declared.expressions.Target.{Target}

@@ -1,8 +1,8 @@
 -- Sample programs that pin contracts, globals and what calls keep.
 use Rattle.std.specs.Prelude.{ℕ, true, [], ◌∷◌, Some, None, pos, negsuc}
 use Rattle.ada_values.specs.Value.{number}
-use Rattle.typed_units.specs.Syntax.{Var, param, local, global, entry, Fit, Ex, static, read, call, no_actuals, actual, Actual, pass_in, pass_out, pass_in_out, to_item, here, st, skip, Text}
-use Rattle.ada_semantics.specs.Cases.{ex, Step, place, to, num, name, prefix, plus, minus, over, equal, greater, whole_of, part_of, set_to, call_of, give_back, natural, by_in, by_out, by_in_out, procedure_of, function_of, with_opening, with_pre, with_post, program, one}
+use Rattle.typed_units.specs.Syntax.{param, local, global, entry, Ex, static, read, call, no_actuals, actual, Actual, pass_in_out, to_item, st, skip, Text}
+use Rattle.ada_semantics.specs.Cases.{ex, Step, place, to, num, name, plus, minus, over, equal, greater, part_of, set_to, call_of, give_back, natural, by_in, by_out, by_in_out, procedure_of, function_of, with_opening, with_pre, with_post, program, one}
 use Rattle.ada_semantics.specs.Cases.Calls.{passing, getting, lending}
 
 -- a call of the function q, whose name stands there, without and with one actual

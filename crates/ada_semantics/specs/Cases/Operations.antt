@@ -5,8 +5,8 @@ use Rattle.ada_values.specs.declared.scalars.Scalar.{Scalar}
 use Rattle.ada_values.specs.declared.scalars.Op.TheVariants as op
 use Rattle.typed_units.specs.declared.operators.Connective.TheVariants as connective
 use Rattle.typed_units.specs.declared.operators.Quantifier.TheVariants as quantifier
-use Rattle.typed_units.specs.Syntax.{param, index, turn, same, negation, unary, pred_at, succ_at, convert, choose, arm, other, quantified, member, st, loop, for, done, Text}
-use Rattle.ada_semantics.specs.Cases.{ex, place, signed, to, num, name, flag, prefix, parens, minus, over, greater, both, seq, set_to, by_in, by_out, by_in_out, procedure_of, one}
+use Rattle.typed_units.specs.Syntax.{param, index, same, negation, unary, pred_at, succ_at, convert, choose, arm, other, quantified, member, st, loop, for, done, Text}
+use Rattle.ada_semantics.specs.Cases.{ex, place, signed, to, num, name, flag, prefix, parens, minus, over, greater, both, seq, set_to, by_in, by_out, procedure_of, one}
 
 --  1  procedure Truths (A, B : in Boolean; N, C, D, X : out Boolean) is
 --  2  begin

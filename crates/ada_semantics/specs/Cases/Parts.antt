@@ -11,7 +11,7 @@ use Rattle.typed_units.specs.declared.operators.Composite.TheVariants as composi
 use Rattle.typed_units.specs.declared.operators.Quantifier.TheVariants as quantifier
 use Rattle.typed_units.specs.Syntax.{param, local, index, Ex, op1, op2, first, last, length_at, item, component, aggregate, Assocs, no_assocs, assoc, quantified, to_component, to_item, pass_in_out, Text}
 use Rattle.ada_semantics.specs.Values.{place_of}
-use Rattle.ada_semantics.specs.Cases.{ex, Step, place, short, to, num, name, plus, over, equal, greater, part_of, set_to, put_in, call_of, natural, by_in, by_out, by_in_out, procedure_of, one, program, int}
+use Rattle.ada_semantics.specs.Cases.{ex, Step, place, short, to, num, name, plus, over, equal, greater, part_of, set_to, put_in, call_of, by_in, by_out, by_in_out, procedure_of, one, program, int}
 
 -- ---- values
 

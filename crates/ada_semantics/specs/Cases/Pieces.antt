@@ -4,7 +4,7 @@
 --    type Arr is array (Positive range <>) of Integer;
 --    type P is record A : Integer; B : Integer; end record;
 --    type Q is record F : P; C : Integer; end record;
-use Rattle.std.specs.Prelude.{ℕ, true, false, [], ◌∷◌, Some, None, pos, negsuc}
+use Rattle.std.specs.Prelude.{ℕ, true, false, [], ◌∷◌, None, pos, negsuc}
 use Rattle.ada_values.specs.Scalars.{integer_last}
 use Rattle.typed_units.specs.declared.operators.Composite.TheVariants as composite
 use Rattle.typed_units.specs.Syntax.{param, local, Ex, to_item, to_component, aggregate, assoc, no_assocs, Text}

@@ -17,7 +17,7 @@ use Rattle.typed_units.specs.declared.operators.Object.TheVariants as object
 use Rattle.typed_units.specs.declared.programs.Program.{Program}
 use Rattle.typed_units.specs.declared.statements.Action.TheVariants as action
 use Rattle.typed_units.specs.declared.statements.Stmt.{Stmt, roll-Stmt}
-use Rattle.typed_units.specs.Syntax.{Var, param, local, present, Ex, at, static, read, op2, binary, compare, Formal, Kind, Routine, Text, target, here, st, assign, invoke, pass_in, pass_out, actual, no_actuals, assert}
+use Rattle.typed_units.specs.Syntax.{param, local, present, Ex, at, static, read, op2, binary, compare, Formal, Kind, Routine, Text, target, here, st, assign, invoke, pass_in, pass_out, actual, no_actuals, assert}
 use Rattle.ada_values.specs.Scalars.{integer}
 use Rattle.ada_values.specs.Value.{number}
 use Rattle.ada_values.specs.declared.scalars.Op.TheVariants as op

@@ -1,8 +1,8 @@
 -- Sample programs that pin the groups of loops, the values on entry to a loop, and ways out.
-use Rattle.std.specs.Prelude.{ℕ, false, [], ◌∷◌, None, pos}
+use Rattle.std.specs.Prelude.{ℕ, false, [], ◌∷◌, None}
 use Rattle.typed_units.specs.declared.operators.Relation.TheVariants as relation
 use Rattle.typed_units.specs.declared.statements.Direction.TheVariants as direction
-use Rattle.typed_units.specs.Syntax.{Var, param, local, turn, loop_entry, Ex, read, st, loop, while, for, Demand, invariant, variant, done, Text}
+use Rattle.typed_units.specs.Syntax.{Var, param, turn, loop_entry, Ex, read, st, loop, while, for, invariant, variant, done, Text}
 use Rattle.ada_semantics.specs.Cases.{ex, place, num, name, plus, minus, times, related, equal, less, seq, set_to, give_back, if_so, by_in, by_out, by_in_out, procedure_of, function_of, one}
 
 -- `X'Loop_Entry`, for the loop of that number
