@@ -1,7 +1,7 @@
 //! What connectives, choices and numbers say of their parts.
 
 ghost use Rattle.std.specs.Prelude.{◌≡◌, ◌∷◌, [], IfOk};
-ghost use Rattle.logic_terms.specs.Node.{arith, le, mul, neg, op1, op2};
+ghost use Rattle.logic_terms.specs.Node.{arith, eq, le, mul, neg, op1, op2};
 ghost use Rattle.logic_terms.specs.Goal.{problem};
 ghost use Rattle.logic_terms.specs.Sorts.{sort};
 ghost use Rattle.logic_terms.specs.View.{formula, term};
@@ -205,13 +205,20 @@ fn less(alloc: Global, a: &Term, b: &Term) -> Result<Boxed<Formula>, Starved>
     at_most(alloc, more, boxed(alloc, b)?)
 }
 
+/// `(= a b)`.
+fn same(alloc: Global, a: &Term, b: &Term) -> Result<Boxed<Formula>, Starved>
+    ensures { IfOk result (λ r. formula r ≡ op2 eq (term a.now) (term b.now)) }
+{
+    equal(alloc, boxed(alloc, a)?, boxed(alloc, b)?)
+}
+
 /// Of two numbers, that they are equal or one is less.
 pub fn compared(alloc: Global, a: &Term, b: &Term) -> Result<FormulaList, Starved>
     ensures { IfOk result (λ r. clause r ≡ compared_by (term a.now) (term b.now)) }
 {
     clause_of_three(
         alloc,
-        equal(alloc, boxed(alloc, a)?, boxed(alloc, b)?)?,
+        same(alloc, a, b)?,
         less(alloc, a, b)?,
         less(alloc, b, a)?,
     )

@@ -16,6 +16,20 @@ use logic_terms::{Formula, FormulaList, Starved, Term, put_in};
 use sqlite_items::Boxed;
 use std::alloc::Global;
 
+/// `(<= a b)`.
+fn up_to(alloc: Global, a: &Term, b: &Term) -> Result<Boxed<Formula>, Starved>
+    ensures { IfOk result (λ r. formula r ≡ op2 le (term a.now) (term b.now)) }
+{
+    at_most(alloc, boxed(alloc, a)?, boxed(alloc, b)?)
+}
+
+/// `(not (<= a b))`.
+fn past(alloc: Global, a: &Term, b: &Term) -> Result<Boxed<Formula>, Starved>
+    ensures { IfOk result (λ r. formula r ≡ op1 neg (op2 le (term a.now) (term b.now))) }
+{
+    not_at_most(alloc, boxed(alloc, a)?, boxed(alloc, b)?)
+}
+
 /// `p` at the symbol or term `t`.
 fn body_at(alloc: Global, p: &Formula, t: &Term) -> Result<Boxed<Formula>, Starved>
     ensures { IfOk result (λ r. formula r ≡ put (term t.now) 0 (formula p.now)) }
@@ -37,8 +51,8 @@ fn instance_of_all(
     Ok(clause_of_four(
         alloc,
         negation(alloc, q)?,
-        not_at_most(alloc, boxed(alloc, l)?, boxed(alloc, t)?)?,
-        not_at_most(alloc, boxed(alloc, t)?, boxed(alloc, h)?)?,
+        past(alloc, l, t)?,
+        past(alloc, t, h)?,
         body_at(alloc, p, t)?,
     )?)
 }
@@ -64,8 +78,8 @@ fn instance_of_any(
     Ok(clause_of_four(
         alloc,
         boxed_formula(alloc, q)?,
-        not_at_most(alloc, boxed(alloc, l)?, boxed(alloc, t)?)?,
-        not_at_most(alloc, boxed(alloc, t)?, boxed(alloc, h)?)?,
+        past(alloc, l, t)?,
+        past(alloc, t, h)?,
         negated_at(alloc, p, t)?,
     )?)
 }
@@ -91,13 +105,8 @@ fn bounded(
 ) -> Result<Boxed<Formula>, Starved>
     ensures { IfOk result (λ r. formula r ≡ bounded_by (term l.now) (term s.now) (term h.now) (formula p)) }
 {
-    let below = at_most(alloc, boxed(alloc, s)?, boxed(alloc, h)?)?;
-    let rest = both(alloc, below, p)?;
-    both(
-        alloc,
-        at_most(alloc, boxed(alloc, l)?, boxed(alloc, s)?)?,
-        rest,
-    )
+    let rest = both(alloc, up_to(alloc, s, h)?, p)?;
+    both(alloc, up_to(alloc, l, s)?, rest)
 }
 
 /// What `q`, which says `p` of some number from `l` to `h`, says of one that `s` stands for.
