@@ -1,5 +1,0 @@
-//! Texts of certificates that are read and refused.
-#![tactic(auto)]
-
-#[cfg(test)]
-mod tests;
