@@ -4,13 +4,14 @@ use Rattle.ada_values.specs.Value.{Val, number, truth, array, record_of}
 use Rattle.ada_values.specs.declared.place.Place.{Place}
 use Rattle.typed_units.specs.declared.checks.CheckKind.{CheckKind}
 use Rattle.typed_units.specs.declared.operators.Quantifier.{Quantifier}
-use Rattle.typed_units.specs.Syntax.{param, index, Ex, at, Nd, static, read, component, op1, op2, connect, member, call, aggregate, choose, quantified, Exs, no_exs, fitted, Arms, other, arm, Assocs, no_assocs, assoc}
+use Rattle.typed_units.specs.Syntax.{index, Ex, at, Nd, static, read, component, op1, op2, connect, member, call, aggregate, choose, quantified, Path, here, to_component, to_item, Target, target, Actual, pass_in, pass_out, pass_in_out, Actuals, no_actuals, actual, Arms, other, arm, Assocs, no_assocs, assoc}
 use Rattle.ada_semantics.specs.Outcome.{Res, gives, fails, short, unset, bind, spend, pick, check}
 use Rattle.ada_semantics.specs.Operators.{truth_of, number_of, quantify, decides, span, stops_at, claims_any, fill}
-use Rattle.ada_semantics.specs.Store.{full, Slots, empties, wholes, component_slot, Store, put, Frame, set, entered}
-use Rattle.ada_semantics.specs.Values.{Calls, place_of, value_of, node_value, slot_of, values_of, chosen, associated}
+use Rattle.ada_semantics.specs.Store.{Slot, full, Slots, empties, whole, wholes, component_slot, item_slot, Store, Frame, set, entered}
+use Rattle.ada_semantics.specs.Targets.{target_place, var_of, bounds_of, reaches, slot_in, with_params}
+use Rattle.ada_semantics.specs.Values.{Calls, place_of, value_of, node_value, slot_of, spots_of, located, one_passed, passed, chosen, associated}
 use Rattle.ada_semantics.specs.Budget.{Left}
-use Rattle.ada_semantics.proofs.Spent.{Keeps, given, failing, nothing, wants, checks, apply1_left, apply2_left, member_left, result_left}
+use Rattle.ada_semantics.proofs.Spent.{Keeps, given, failing, nothing, wants, checks, checks_each, position_left, apply1_left, apply2_left, member_left, result_left}
 
 pub record Agrees {A : Type 0} (n : ℕ) (r t : Res A) : Type 0 where
   pub left : Left n r
@@ -85,42 +86,58 @@ quantifies (suc count) q i body tried n h = spends n _ _ (λ m lt. binds m _ _ _
 module _ (calls others : Calls) (k : ℕ) (agree : (q : ℕ) (s : Store) (n : ℕ) → n < k → Agrees n (calls q s n) (others q s n)) where
   mutual
     pub value_agrees : (e : Ex) (f : Frame) (n : ℕ) → n ≤ k → Agrees n (value_of calls e f n) (value_of others e f n)
-    value_agrees (at p x) f n le = spends n _ _ (λ m lt. node_agrees p x f m (lower lt le))
+    value_agrees (at p t x) f n le = spends n _ _ (λ m lt. node_agrees x f m (lower lt le))
 
-    node_agrees : (p : Place) (x : Nd) (f : Frame) (n : ℕ) → n < k → Agrees n (node_value calls p x f n) (node_value others p x f n)
-    node_agrees p (static v) f n lt = alike (given _ n)
-    node_agrees p (read w x) f n lt = alike (wants _ n)
-    node_agrees p (component j a) f n lt = binds n _ _ _ _ (slot_agrees a f n (weak lt)) (λ s m le. alike (wants _ m))
-    node_agrees p (op1 o a) f n lt = binds n _ _ _ _ (value_agrees a f n (weak lt)) (λ v m le. alike (apply1_left o (place_of a) v m))
-    node_agrees p (op2 o a b) f n lt =
+    node_agrees : (x : Nd) (f : Frame) (n : ℕ) → n < k → Agrees n (node_value calls x f n) (node_value others x f n)
+    node_agrees (static v) f n lt = alike (given _ n)
+    node_agrees (read p w x) f n lt = alike (wants _ n)
+    node_agrees (component j a) f n lt = binds n _ _ _ _ (slot_agrees a f n (weak lt)) (λ s m le. alike (wants _ m))
+    node_agrees (op1 o a) f n lt = binds n _ _ _ _ (value_agrees a f n (weak lt)) (λ v m le. alike (apply1_left o (place_of a) v m))
+    node_agrees (op2 o a b) f n lt =
         binds n _ _ _ _ (value_agrees a f n (weak lt)) (λ u m le. binds m _ _ _ _ (value_agrees b f m (weak (below le lt))) (λ v j le'. alike (apply2_left o (place_of b) u v j)))
-    node_agrees p (connect c a b) f n lt =
+    node_agrees (connect c a b) f n lt =
         binds n _ _ _ _ (value_agrees a f n (weak lt)) (λ u m le. on_truth u m _ _ (λ x. picks (stops_at c x) m _ _ _ _ (alike (given _ m))
         (binds m _ _ _ _ (value_agrees b f m (weak (below le lt))) (λ v j le'. on_truth v j _ _ (λ y. alike (given _ j))))))
-    node_agrees p (member is a l h) f n lt =
+    node_agrees (member is a l h) f n lt =
         binds n _ _ _ _ (value_agrees a f n (weak lt)) (λ u m le. binds m _ _ _ _ (value_agrees l f m (weak (below le lt))) (λ v j le'.
         binds j _ _ _ _ (value_agrees h f j (weak (below le' (below le lt)))) (λ w r le''. alike (member_left is u v w r))))
-    node_agrees p (call q es) f n lt =
-        binds n _ _ _ _ (values_agree es (entered f.state) f n (weak lt)) (λ s m le. binds m _ _ _ _ (agree q s m (below le lt)) (λ t j le'. alike (result_left p t j)))
-    node_agrees p (aggregate c b es) f n lt =
+    node_agrees (call p q as') f n lt =
+        binds n _ _ _ _ (passed_agree as' f n (weak lt)) (λ ps m le. binds m _ _ _ _ (agree q (with_params ps (entered f.state)) m (below le lt)) (λ t j le'. alike (result_left p t j)))
+    node_agrees (aggregate c b es) f n lt =
         binds n _ _ _ _ (associated_agree es b.first (empties (span b.first b.last)) f n (weak lt)) (λ ss m le.
         binds m _ _ _ _ (alike (wants (wholes ss) m)) (λ vs j le'. alike (given _ j)))
-    node_agrees p (choose es) f n lt = chosen_agree es f n (weak lt)
-    node_agrees p (quantified q i l h e) f n lt =
+    node_agrees (choose es) f n lt = chosen_agree es f n (weak lt)
+    node_agrees (quantified q i l h e) f n lt =
         binds n _ _ _ _ (value_agrees l f n (weak lt)) (λ u m le. binds m _ _ _ _ (value_agrees h f m (weak (below le lt))) (λ v j le'.
         on_number u j _ _ (λ lo. on_number v j _ _ (λ hi. quantifies (span lo hi) q lo _ _ j
         (λ x r le''. value_agrees e (set f (index i) (full (number x))) r (weak (below le'' (below le' (below le lt)))))))))
 
     slot_agrees : (e : Ex) (f : Frame) (n : ℕ) → n ≤ k → Agrees n (slot_of calls e f n) (slot_of others e f n)
-    slot_agrees (at p (read w x)) f n le = spends n _ _ (λ m lt. alike (given _ m))
-    slot_agrees (at p (component j a)) f n le = spends n _ _ (λ m lt. binds m _ _ _ _ (slot_agrees a f m (weak (lower lt le))) (λ s r le'. alike (given (component_slot j s) r)))
-    slot_agrees (at p x) f n le = spends n _ _ (λ m lt. binds m _ _ _ _ (node_agrees p x f m (lower lt le)) (λ v r le'. alike (given (full v) r)))
+    slot_agrees (at p t (read q w x)) f n le = spends n _ _ (λ m lt. alike (given _ m))
+    slot_agrees (at p t (component j a)) f n le = spends n _ _ (λ m lt. binds m _ _ _ _ (slot_agrees a f m (weak (lower lt le))) (λ s r le'. alike (given (component_slot j s) r)))
+    slot_agrees (at p t x) f n le = spends n _ _ (λ m lt. binds m _ _ _ _ (node_agrees x f m (lower lt le)) (λ v r le'. alike (given (full v) r)))
 
-    values_agree : (es : Exs) (s : Store) (f : Frame) (n : ℕ) → n ≤ k → Agrees n (values_of calls es s f n) (values_of others es s f n)
-    values_agree no_exs s f n le = alike (given _ n)
-    values_agree (fitted j fit e es) s f n le =
-        binds n _ _ _ _ (value_agrees e f n le) (λ v m h. binds m _ _ _ _ (alike (checks fit (place_of e) v m)) (λ w r h'.
-        values_agree es (put s (param j) (full w)) f r (still h' (still h le))))
+    spots_agree : (path : Path) (s : Slot) (f : Frame) (n : ℕ) → n ≤ k → Agrees n (spots_of calls path s f n) (spots_of others path s f n)
+    spots_agree here s f n le = alike (given _ n)
+    spots_agree (to_component j count rest) s f n le = binds n _ _ _ _ (spots_agree rest (component_slot j s) f n le) (λ ss m h. alike (given _ m))
+    spots_agree (to_item b c e rest) s f n le =
+        binds n _ _ _ _ (value_agrees e f n le) (λ v m h. binds m _ _ _ _ (alike (position_left (bounds_of b s) c (place_of e) v m)) (λ j r h2.
+        binds r _ _ _ _ (spots_agree rest (item_slot j s) f r (still h2 (still h le))) (λ ss x h3. alike (given _ x))))
+
+    pub located_agrees : (t : Target) (f : Frame) (n : ℕ) → n ≤ k → Agrees n (located calls t f n) (located others t f n)
+    located_agrees (target p x path) f n le = binds n _ _ _ _ (spots_agree path (f.state x) f n le) (λ ss m h.
+        picks (reaches ss (f.state x)) m _ _ _ _ (alike (given ss m)) (alike (nothing m)))
+
+    one_passed_agrees : (a : Actual) (f : Frame) (n : ℕ) → n ≤ k → Agrees n (one_passed calls a f n) (one_passed others a f n)
+    one_passed_agrees (pass_in j fit e) f n le = binds n _ _ _ _ (value_agrees e f n le) (λ v m h. binds m _ _ _ _ (alike (checks fit (place_of e) v m)) (λ w r h2. alike (given _ r)))
+    one_passed_agrees (pass_out j t fit) f n le = binds n _ _ _ _ (located_agrees t f n le) (λ ss m h. alike (given _ m))
+    one_passed_agrees (pass_in_out j t inward fit) f n le = binds n _ _ _ _ (located_agrees t f n le) (λ ss m h.
+        binds m _ _ _ _ (alike (wants (whole (slot_in ss (f.state (var_of t)))) m)) (λ v r h2.
+        binds r _ _ _ _ (alike (checks inward (target_place t) v r)) (λ w x h3. alike (given _ x))))
+
+    pub passed_agree : (as' : Actuals) (f : Frame) (n : ℕ) → n ≤ k → Agrees n (passed calls as' f n) (passed others as' f n)
+    passed_agree no_actuals f n le = alike (given _ n)
+    passed_agree (actual a as') f n le = binds n _ _ _ _ (one_passed_agrees a f n le) (λ p m h. binds m _ _ _ _ (passed_agree as' f m (still h le)) (λ ps j h2. alike (given _ j)))
 
     chosen_agree : (es : Arms) (f : Frame) (n : ℕ) → n ≤ k → Agrees n (chosen calls es f n) (chosen others es f n)
     chosen_agree (other e) f n le = value_agrees e f n le
@@ -129,8 +146,8 @@ module _ (calls others : Calls) (k : ℕ) (agree : (q : ℕ) (s : Store) (n : �
 
     associated_agree : (es : Assocs) (x : ℤ) (ss : Slots) (f : Frame) (n : ℕ) → n ≤ k → Agrees n (associated calls es x ss f n) (associated others es x ss f n)
     associated_agree no_assocs x ss f n le = alike (given _ n)
-    associated_agree (assoc ranges is_others fit e es) x ss f n le =
+    associated_agree (assoc ranges is_others bs e es) x ss f n le =
         picks (claims_any ranges is_others x ss) n _ _ _ _
-        (binds n _ _ _ _ (value_agrees e f n le) (λ v m h. binds m _ _ _ _ (alike (checks fit (place_of e) v m)) (λ w j h'.
+        (binds n _ _ _ _ (value_agrees e f n le) (λ v m h. binds m _ _ _ _ (alike (checks_each bs (place_of e) v m)) (λ w j h'.
         associated_agree es x (fill ranges is_others x w ss) f j (still h' (still h le)))))
         (associated_agree es x ss f n le)

@@ -4,18 +4,18 @@ use Rattle.ada_values.specs.Value.{number}
 use Rattle.ada_values.specs.declared.place.Place.{Place}
 use Rattle.typed_units.specs.declared.checks.CheckKind.{CheckKind}
 use Rattle.typed_units.specs.declared.checks.CheckKind.TheVariants as kind
-use Rattle.typed_units.specs.Syntax.{Fit, Var, turn, Ex, Step, to_component, to_item, Target, Actual, pass_in, pass_out, pass_in_out, Way, Demand, invariant, variant, Head, forever, while, for, St, st, Ac, skip, assign, invoke, branch, case_of, loop, exit, exit_when, return, give, assert, assume, Sts, done, then, Branches, otherwise, when, Alternatives, no_alternatives, alternative, Routine, Text}
+use Rattle.typed_units.specs.Syntax.{Fit, Var, turn, Ex, Way, Demand, invariant, variant, Head, forever, while, for, St, st, Ac, skip, assign, invoke, branch, case_of, loop, exit, exit_when, return, give, assert, assume, Sts, done, then, Branches, otherwise, when, Alternatives, no_alternatives, alternative, Routine, Text}
 use Rattle.ada_semantics.specs.Outcome.{Res, gives}
-use Rattle.ada_semantics.specs.Store.{Slot, full, whole, component_slot, item_slot, Store, Frame, set, enter_loop, entered, begin}
-use Rattle.ada_semantics.specs.Operators.{span, lies_in}
-use Rattle.ada_semantics.specs.Values.{Calls, place_of, value_of}
-use Rattle.ada_semantics.specs.Targets.{bounds_of, spots_of, reaches, located, slot_in}
-use Rattle.ada_semantics.specs.Running.{Stop, goes, leaves, returns, next, holds_at, fitting, one_passed, passed, with_params, numbers_of, variant_check, demanded, moved_since, invariant_kind, Round, again, over, in_loop, Turn, one_turn, after_round, turns_while, turns_over, looped, step_of, action_of, run_of, branch_of, selected}
+use Rattle.ada_semantics.specs.Store.{full, Store, Frame, set, enter_loop, entered, begin}
+use Rattle.ada_semantics.specs.Operators.{span, chosen_in}
+use Rattle.ada_semantics.specs.Targets.{with_params}
+use Rattle.ada_semantics.specs.Values.{Calls, place_of, value_of, located, passed}
+use Rattle.ada_semantics.specs.Running.{Stop, goes, leaves, returns, next, holds_at, fitting, numbers_of, variant_check, demanded, moved_since, invariant_kind, Round, again, over, in_loop, Turn, one_turn, after_round, turns_while, turns_over, looped, step_of, action_of, run_of, branch_of, selected}
 use Rattle.ada_semantics.specs.Plain.{condition, finished, ended, one_call, routine_at, call_of, calls_within}
 use Rattle.ada_semantics.specs.Budget.{AnyDepth}
-use Rattle.ada_semantics.proofs.Spent.{given, nothing, running_out, wants, checks}
-use Rattle.ada_semantics.proofs.SpentRunning.{position_left, came_left}
-use Rattle.ada_semantics.proofs.Agreed.{Agrees, alike, below, lower, still, weak, binds, spends, picks, passes, on_truth, on_number, value_agrees}
+use Rattle.ada_semantics.proofs.Spent.{given, nothing, running_out, checks}
+use Rattle.ada_semantics.proofs.SpentRunning.{came_left}
+use Rattle.ada_semantics.proofs.Agreed.{Agrees, alike, below, lower, still, weak, binds, spends, picks, passes, on_truth, on_number, value_agrees, located_agrees, passed_agree}
 
 -- ---- what follows a part, by how the rest agrees up to a budget
 
@@ -65,35 +65,11 @@ module _ (calls others : Calls) (k : ℕ) (agree : (q : ℕ) (s : Store) (n : �
   value : (e : Ex) (f : Frame) (n : ℕ) → n ≤ k → Agrees n (value_of calls e f n) (value_of others e f n)
   value e f n le = value_agrees calls others k agree e f n le
 
-  -- ---- targets and actuals
-
-  spots_agree : (path : List Step) (s : Slot) (f : Frame) (n : ℕ) → n ≤ k → Agrees n (spots_of calls path s f n) (spots_of others path s f n)
-  spots_agree [] s f n le = alike (given _ n)
-  spots_agree (to_component j count ∷ rest) s f n le = binds n _ _ _ _ (spots_agree rest (component_slot j s) f n le) (λ ss m h. alike (given _ m))
-  spots_agree (to_item b c e ∷ rest) s f n le =
-      binds n _ _ _ _ (value e f n le) (λ v m h. binds m _ _ _ _ (alike (position_left (bounds_of b s) c (place_of e) v m)) (λ j r h2.
-      binds r _ _ _ _ (spots_agree rest (item_slot j s) f r (still h2 (still h le))) (λ ss x h3. alike (given _ x))))
-
-  located_agrees : (t : Target) (f : Frame) (n : ℕ) → n ≤ k → Agrees n (located calls t f n) (located others t f n)
-  located_agrees t f n le = binds n _ _ _ _ (spots_agree t.path (f.state t.var) f n le) (λ ss m h.
-      picks (reaches ss (f.state t.var)) m _ _ _ _ (alike (given ss m)) (alike (nothing m)))
-
   fitting_agrees : (fit : Fit) (e : Ex) (f : Frame) (n : ℕ) → n ≤ k → Agrees n (fitting calls fit e f n) (fitting others fit e f n)
   fitting_agrees fit e f n le = binds n _ _ _ _ (value e f n le) (λ v m h. alike (checks fit (place_of e) v m))
 
   holds_agrees : {A : Type 0} (c : CheckKind) (e : Ex) (f : Frame) (n : ℕ) (go to : ℕ → Res A) → n ≤ k → ((m : ℕ) → m ≤ k → Agrees m (go m) (to m)) → Agrees n (holds_at calls c e f n go) (holds_at others c e f n to)
   holds_agrees c e f n go to le w = binds n _ _ _ _ (value e f n le) (λ v m h. on_truth v m _ _ (λ b. passes b (place_of e) c m (go m) (to m) (w m (still h le))))
-
-  one_passed_agrees : (a : Actual) (f : Frame) (n : ℕ) → n ≤ k → Agrees n (one_passed calls a f n) (one_passed others a f n)
-  one_passed_agrees (pass_in j fit e) f n le = binds n _ _ _ _ (fitting_agrees fit e f n le) (λ v m h. alike (given _ m))
-  one_passed_agrees (pass_out j t fit) f n le = binds n _ _ _ _ (located_agrees t f n le) (λ ss m h. alike (given _ m))
-  one_passed_agrees (pass_in_out j t inward fit) f n le = binds n _ _ _ _ (located_agrees t f n le) (λ ss m h.
-      binds m _ _ _ _ (alike (wants (whole (slot_in ss (f.state t.var))) m)) (λ v r h2.
-      binds r _ _ _ _ (alike (checks inward t.place v r)) (λ w x h3. alike (given _ x))))
-
-  passed_agree : (as' : List Actual) (f : Frame) (n : ℕ) → n ≤ k → Agrees n (passed calls as' f n) (passed others as' f n)
-  passed_agree [] f n le = alike (given _ n)
-  passed_agree (a ∷ as') f n le = binds n _ _ _ _ (one_passed_agrees a f n le) (λ p m h. binds m _ _ _ _ (passed_agree as' f m (still h le)) (λ ps j h2. alike (given _ j)))
 
   -- ---- the group of a loop
 
@@ -132,8 +108,8 @@ module _ (calls others : Calls) (k : ℕ) (agree : (q : ℕ) (s : Store) (n : �
 
     action_agrees : (p : Place) (a : Ac) (f : Frame) (n : ℕ) → n < k → Agrees n (action_of calls p a f n) (action_of others p a f n)
     action_agrees p skip f n lt = alike (given _ n)
-    action_agrees p (assign t fit e) f n lt = binds n _ _ _ _ (located_agrees t f n (weak lt)) (λ ss m h. binds m _ _ _ _ (fitting_agrees fit e f m (weak (below h lt))) (λ v j h2. alike (given _ j)))
-    action_agrees p (invoke q as') f n lt = binds n _ _ _ _ (passed_agree as' f n (weak lt)) (λ ps m h.
+    action_agrees p (assign t fit e) f n lt = binds n _ _ _ _ (located_agrees calls others k agree t f n (weak lt)) (λ ss m h. binds m _ _ _ _ (fitting_agrees fit e f m (weak (below h lt))) (λ v j h2. alike (given _ j)))
+    action_agrees p (invoke q as') f n lt = binds n _ _ _ _ (passed_agree calls others k agree as' f n (weak lt)) (λ ps m h.
         binds m _ _ _ _ (agree q (with_params ps (entered f.state)) m (below h lt)) (λ s j h2. alike (came_left p ps f s j)))
     action_agrees p (branch bs) f n lt = branch_agrees bs f n (weak lt)
     action_agrees p (case_of e as') f n lt = binds n _ _ _ _ (value e f n (weak lt)) (λ v m h. on_number v m _ _ (λ x. selected_agrees as' x f m (weak (below h lt))))
@@ -158,7 +134,7 @@ module _ (calls others : Calls) (k : ℕ) (agree : (q : ℕ) (s : Store) (n : �
 
     selected_agrees : (as' : Alternatives) (x : ℤ) (f : Frame) (n : ℕ) → n ≤ k → Agrees n (selected calls as' x f n) (selected others as' x f n)
     selected_agrees no_alternatives x f n le = alike (nothing n)
-    selected_agrees (alternative ranges is_others ss as') x f n le = picks (is_others || lies_in ranges x) n _ _ _ _ (run_agrees ss f n le) (selected_agrees as' x f n le)
+    selected_agrees (alternative choices is_others ss as') x f n le = picks (is_others || chosen_in choices x) n _ _ _ _ (run_agrees ss f n le) (selected_agrees as' x f n le)
 
   -- ---- calls
 

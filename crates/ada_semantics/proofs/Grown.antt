@@ -1,18 +1,20 @@
 -- With more of a budget an evaluation comes to the same, where calls do.
-use Rattle.std.proofs.Common.{◌≡◌, ℕ, zero, suc, ◌+◌, arith, refl, ap, sym, subst, Bool, true, false, Option, Some, None, Ok, Err, Result, ℤ, pos, ◌+ℤ◌}
+use Rattle.std.proofs.Common.{◌≡◌, ℕ, zero, suc, ◌+◌, arith, refl, ap, sym, subst, Bool, true, false, List, [], ◌∷◌, Option, Some, None, Ok, Err, Result, ℤ, pos, ◌+ℤ◌}
 use Rattle.ada_values.specs.Value.{Val, number, truth, array, record_of}
 use Rattle.ada_values.specs.declared.place.Place.{Place}
 use Rattle.ada_values.specs.declared.scalars.OpFault.{OpFault}
 use Rattle.typed_units.specs.declared.checks.CheckKind.{CheckKind}
 use Rattle.typed_units.specs.declared.checks.SiteKey.{SiteKey}
+use Rattle.typed_units.specs.declared.operators.Bounds.{Bounds}
 use Rattle.typed_units.specs.declared.operators.Quantifier.{Quantifier}
 use Rattle.typed_units.specs.declared.operators.Relation.{Relation}
 use Rattle.typed_units.specs.declared.operators.Relation.TheVariants as relation
-use Rattle.typed_units.specs.Syntax.{Fit, Op1, first, last, length_at, succ_at, pred_at, same, negation, unary, convert, Op2, binary, compare, item, param, index, Ex, at, Nd, static, read, component, op1, op2, connect, member, call, aggregate, choose, quantified, Exs, no_exs, fitted, Arms, other, arm, Assocs, no_assocs, assoc}
+use Rattle.typed_units.specs.Syntax.{Fit, Op1, first, last, length_at, succ_at, pred_at, same, negation, unary, convert, Op2, binary, compare, item, index, Ex, at, Nd, static, read, component, op1, op2, connect, member, call, aggregate, choose, quantified, Path, here, to_component, to_item, Target, target, Actual, pass_in, pass_out, pass_in_out, Actuals, no_actuals, actual, Arms, other, arm, Assocs, no_assocs, assoc}
 use Rattle.ada_semantics.specs.Outcome.{Res, gives, fails, short, unset, bind, spend, pick, wanted, check}
-use Rattle.ada_semantics.specs.Operators.{keeps, checked, computed, apply1, apply2, related, item_of, member_of, truth_of, number_of, quantify, decides, span, stops_at, claims_any, fill}
-use Rattle.ada_semantics.specs.Store.{full, Slots, empties, wholes, component_slot, Store, put, Frame, set, entered}
-use Rattle.ada_semantics.specs.Values.{Calls, place_of, result_of, value_of, node_value, slot_of, values_of, chosen, associated}
+use Rattle.ada_semantics.specs.Operators.{keeps, keeps_each, checked, checked_each, computed, apply1, apply2, related, item_of, member_of, truth_of, number_of, quantify, decides, span, stops_at, claims_any, fill}
+use Rattle.ada_semantics.specs.Store.{Slot, full, Slots, empties, whole, wholes, component_slot, item_slot, Store, Frame, set, entered}
+use Rattle.ada_semantics.specs.Targets.{target_place, var_of, bounds_of, position_in, reaches, slot_in, with_params}
+use Rattle.ada_semantics.specs.Values.{Calls, place_of, result_of, value_of, node_value, slot_of, spots_of, located, one_passed, passed, chosen, associated}
 use Rattle.ada_semantics.specs.Budget.{Grows, CallsGrow}
 
 pub record More {A : Type 0} (k : ℕ) (r t : Res A) : Type 0 where
@@ -73,6 +75,13 @@ on_number (record_of vs) k go to h = nothing k
 pub checks : (fit : Fit) (p : Place) (v : Val) (n k : ℕ) → More k (checked fit p v n) (checked fit p v (n + k))
 checks fit p v n k = passes (keeps fit v) p _ k _ _ (given v n k)
 
+pub checks_each : (bs : List Bounds) (p : Place) (v : Val) (n k : ℕ) → More k (checked_each bs p v n) (checked_each bs p v (n + k))
+checks_each bs p v n k = passes (keeps_each bs v) p _ k _ _ (given v n k)
+
+position_grows : (b : Option Bounds) (c : Bool) (p : Place) (v : Val) (n k : ℕ) → More k (position_in b c p v n) (position_in b c p v (n + k))
+position_grows (Some b) c p (number x) n k = picks _ k _ _ _ _ (given _ n k) (picks c k _ _ _ _ (failing _ k) (nothing k))
+position_grows _ c p v n k = nothing k
+
 -- ---- operators
 
 pub computes : (r : Result ℤ OpFault) (p q : Place) (n k : ℕ) → More k (computed r p q n) (computed r p q (n + k))
@@ -127,42 +136,58 @@ result_grows p (Some s) n k = wants _ n k
 module _ (calls others : Calls) (k : ℕ) (agree : CallsGrow k calls others) where
   mutual
     pub value_grows : (e : Ex) (f : Frame) (n : ℕ) → More k (value_of calls e f n) (value_of others e f (n + k))
-    value_grows (at p x) f n = spends n k _ _ (λ m. node_grows p x f m)
+    value_grows (at p t x) f n = spends n k _ _ (λ m. node_grows x f m)
 
-    node_grows : (p : Place) (x : Nd) (f : Frame) (n : ℕ) → More k (node_value calls p x f n) (node_value others p x f (n + k))
-    node_grows p (static v) f n = given _ n k
-    node_grows p (read w x) f n = wants _ n k
-    node_grows p (component j a) f n = binds k _ _ _ _ (slot_grows a f n) (λ s m. wants _ m k)
-    node_grows p (op1 o a) f n = binds k _ _ _ _ (value_grows a f n) (λ v m. apply1_grows o (place_of a) v m k)
-    node_grows p (op2 o a b) f n =
+    node_grows : (x : Nd) (f : Frame) (n : ℕ) → More k (node_value calls x f n) (node_value others x f (n + k))
+    node_grows (static v) f n = given _ n k
+    node_grows (read p w x) f n = wants _ n k
+    node_grows (component j a) f n = binds k _ _ _ _ (slot_grows a f n) (λ s m. wants _ m k)
+    node_grows (op1 o a) f n = binds k _ _ _ _ (value_grows a f n) (λ v m. apply1_grows o (place_of a) v m k)
+    node_grows (op2 o a b) f n =
         binds k _ _ _ _ (value_grows a f n) (λ u m. binds k _ _ _ _ (value_grows b f m) (λ v j. apply2_grows o (place_of b) u v j k))
-    node_grows p (connect c a b) f n =
+    node_grows (connect c a b) f n =
         binds k _ _ _ _ (value_grows a f n) (λ u m. on_truth u k _ _ (λ x. picks (stops_at c x) k _ _ _ _ (given _ m k)
         (binds k _ _ _ _ (value_grows b f m) (λ v j. on_truth v k _ _ (λ y. given _ j k)))))
-    node_grows p (member is a l h) f n =
+    node_grows (member is a l h) f n =
         binds k _ _ _ _ (value_grows a f n) (λ u m. binds k _ _ _ _ (value_grows l f m) (λ v j.
         binds k _ _ _ _ (value_grows h f j) (λ w r. member_grows is u v w r k)))
-    node_grows p (call q es) f n =
-        binds k _ _ _ _ (values_grow es (entered f.state) f n) (λ s m. binds k _ _ _ _ (record { grows = agree q s m }) (λ t j. result_grows p t j k))
-    node_grows p (aggregate c b es) f n =
+    node_grows (call p q as') f n =
+        binds k _ _ _ _ (passed_grows as' f n) (λ ps m. binds k _ _ _ _ (record { grows = agree q (with_params ps (entered f.state)) m }) (λ t j. result_grows p t j k))
+    node_grows (aggregate c b es) f n =
         binds k _ _ _ _ (associated_grow es b.first (empties (span b.first b.last)) f n) (λ ss m.
         binds k _ _ _ _ (wants (wholes ss) m k) (λ vs j. given _ j k))
-    node_grows p (choose es) f n = chosen_grows es f n
-    node_grows p (quantified q i l h e) f n =
+    node_grows (choose es) f n = chosen_grows es f n
+    node_grows (quantified q i l h e) f n =
         binds k _ _ _ _ (value_grows l f n) (λ u m. binds k _ _ _ _ (value_grows h f m) (λ v j.
         on_number u k _ _ (λ lo. on_number v k _ _ (λ hi. quantifies (span lo hi) q lo _ _ j k
         (λ x r. value_grows e (set f (index i) (full (number x))) r)))))
 
     slot_grows : (e : Ex) (f : Frame) (n : ℕ) → More k (slot_of calls e f n) (slot_of others e f (n + k))
-    slot_grows (at p (read w x)) f n = spends n k _ _ (λ m. given _ m k)
-    slot_grows (at p (component j a)) f n = spends n k _ _ (λ m. binds k _ _ _ _ (slot_grows a f m) (λ s r. given (component_slot j s) r k))
-    slot_grows (at p x) f n = spends n k _ _ (λ m. binds k _ _ (λ v r. gives (full v) r) (λ v r. gives (full v) r) (node_grows p x f m) (λ v r. given (full v) r k))
+    slot_grows (at p t (read q w x)) f n = spends n k _ _ (λ m. given _ m k)
+    slot_grows (at p t (component j a)) f n = spends n k _ _ (λ m. binds k _ _ _ _ (slot_grows a f m) (λ s r. given (component_slot j s) r k))
+    slot_grows (at p t x) f n = spends n k _ _ (λ m. binds k _ _ (λ v r. gives (full v) r) (λ v r. gives (full v) r) (node_grows x f m) (λ v r. given (full v) r k))
 
-    values_grow : (es : Exs) (s : Store) (f : Frame) (n : ℕ) → More k (values_of calls es s f n) (values_of others es s f (n + k))
-    values_grow no_exs s f n = given _ n k
-    values_grow (fitted j fit e es) s f n =
-        binds k _ _ _ _ (value_grows e f n) (λ v m. binds k _ _ _ _ (checks fit (place_of e) v m k) (λ w r.
-        values_grow es (put s (param j) (full w)) f r))
+    spots_grows : (path : Path) (s : Slot) (f : Frame) (n : ℕ) → More k (spots_of calls path s f n) (spots_of others path s f (n + k))
+    spots_grows here s f n = given _ n k
+    spots_grows (to_component j count rest) s f n = binds k _ _ _ _ (spots_grows rest (component_slot j s) f n) (λ ss m. given _ m k)
+    spots_grows (to_item b c e rest) s f n =
+        binds k _ _ _ _ (value_grows e f n) (λ v m. binds k _ _ _ _ (position_grows (bounds_of b s) c (place_of e) v m k) (λ j r.
+        binds k _ _ _ _ (spots_grows rest (item_slot j s) f r) (λ ss x. given _ x k)))
+
+    pub located_grows : (t : Target) (f : Frame) (n : ℕ) → More k (located calls t f n) (located others t f (n + k))
+    located_grows (target p x path) f n = binds k _ _ _ _ (spots_grows path (f.state x) f n) (λ ss m.
+        picks (reaches ss (f.state x)) k _ _ _ _ (given ss m k) (nothing k))
+
+    one_passed_grows : (a : Actual) (f : Frame) (n : ℕ) → More k (one_passed calls a f n) (one_passed others a f (n + k))
+    one_passed_grows (pass_in j fit e) f n = binds k _ _ _ _ (value_grows e f n) (λ v m. binds k _ _ _ _ (checks fit (place_of e) v m k) (λ w r. given _ r k))
+    one_passed_grows (pass_out j t fit) f n = binds k _ _ _ _ (located_grows t f n) (λ ss m. given _ m k)
+    one_passed_grows (pass_in_out j t inward fit) f n = binds k _ _ _ _ (located_grows t f n) (λ ss m.
+        binds k _ _ _ _ (wants (whole (slot_in ss (f.state (var_of t)))) m k) (λ v r.
+        binds k _ _ _ _ (checks inward (target_place t) v r k) (λ w x. given _ x k)))
+
+    pub passed_grows : (as' : Actuals) (f : Frame) (n : ℕ) → More k (passed calls as' f n) (passed others as' f (n + k))
+    passed_grows no_actuals f n = given _ n k
+    passed_grows (actual a as') f n = binds k _ _ _ _ (one_passed_grows a f n) (λ p m. binds k _ _ _ _ (passed_grows as' f m) (λ ps j. given _ j k))
 
     chosen_grows : (es : Arms) (f : Frame) (n : ℕ) → More k (chosen calls es f n) (chosen others es f (n + k))
     chosen_grows (other e) f n = value_grows e f n
@@ -171,8 +196,8 @@ module _ (calls others : Calls) (k : ℕ) (agree : CallsGrow k calls others) whe
 
     associated_grow : (es : Assocs) (x : ℤ) (ss : Slots) (f : Frame) (n : ℕ) → More k (associated calls es x ss f n) (associated others es x ss f (n + k))
     associated_grow no_assocs x ss f n = given _ n k
-    associated_grow (assoc ranges is_others fit e es) x ss f n =
+    associated_grow (assoc ranges is_others bs e es) x ss f n =
         picks (claims_any ranges is_others x ss) k _ _ _ _
-        (binds k _ _ _ _ (value_grows e f n) (λ v m. binds k _ _ _ _ (checks fit (place_of e) v m k) (λ w j.
+        (binds k _ _ _ _ (value_grows e f n) (λ v m. binds k _ _ _ _ (checks_each bs (place_of e) v m k) (λ w j.
         associated_grow es x (fill ranges is_others x w ss) f j)))
         (associated_grow es x ss f n)

@@ -4,23 +4,18 @@ use Rattle.ada_values.specs.Value.{Val, number}
 use Rattle.ada_values.specs.declared.place.Place.{Place}
 use Rattle.typed_units.specs.declared.checks.CheckKind.{CheckKind}
 use Rattle.typed_units.specs.declared.checks.CheckKind.TheVariants as kind
-use Rattle.typed_units.specs.declared.operators.Bounds.{Bounds}
-use Rattle.typed_units.specs.Syntax.{Fit, Var, param, turn, Ex, Step, to_component, to_item, Target, Actual, pass_in, pass_out, pass_in_out, Way, Demand, invariant, variant, Head, forever, while, for, St, st, Ac, skip, assign, invoke, branch, case_of, loop, exit, exit_when, return, give, assert, assume, Sts, done, then, Branches, otherwise, when, Alternatives, no_alternatives, alternative, Routine, Text}
+use Rattle.typed_units.specs.Syntax.{Fit, Var, param, turn, Ex, Way, Demand, invariant, variant, Head, forever, while, for, St, st, Ac, skip, assign, invoke, branch, case_of, loop, exit, exit_when, return, give, assert, assume, Sts, done, then, Branches, otherwise, when, Alternatives, no_alternatives, alternative, Routine, Text}
 use Rattle.ada_semantics.specs.Outcome.{Res, gives, fails, short, unset, bind, wanted}
-use Rattle.ada_semantics.specs.Store.{Slot, full, whole, component_slot, item_slot, Store, Frame, set, enter_loop, entered, with_globals, begin}
-use Rattle.ada_semantics.specs.Operators.{span, checked, lies_in}
-use Rattle.ada_semantics.specs.Values.{Calls, place_of, value_of}
-use Rattle.ada_semantics.specs.Targets.{position_in, bounds_of, spots_of, reaches, located, slot_in, write}
-use Rattle.ada_semantics.specs.Running.{Stop, goes, leaves, returns, next, holds_at, fitting, Return, Passed, one_passed, passed, with_params, copied_back, came_back, numbers_of, variant_check, demanded, moved_since, invariant_kind, Round, again, over, in_loop, Turn, one_turn, after_round, turns_while, turns_over, truth_at, looped, step_of, action_of, run_of, branch_of, selected}
+use Rattle.ada_semantics.specs.Store.{full, whole, Store, Frame, set, enter_loop, entered, with_globals, begin}
+use Rattle.ada_semantics.specs.Operators.{span, checked, chosen_in}
+use Rattle.ada_semantics.specs.Targets.{Return, Passed, with_params, write}
+use Rattle.ada_semantics.specs.Values.{Calls, place_of, value_of, located, passed}
+use Rattle.ada_semantics.specs.Running.{Stop, goes, leaves, returns, next, holds_at, fitting, copied_back, came_back, numbers_of, variant_check, demanded, moved_since, invariant_kind, Round, again, over, in_loop, Turn, one_turn, after_round, turns_while, turns_over, truth_at, looped, step_of, action_of, run_of, branch_of, selected}
 use Rattle.ada_semantics.specs.Plain.{plain_run, plain_of, started, given_params, condition, finished, ended, one_call, routine_at, call_of, calls_within}
 use Rattle.ada_semantics.specs.Budget.{Grows, CallsGrow, MoreForCalls, MoreForRuns, Settled}
-use Rattle.ada_semantics.proofs.Grown.{More, given, failing, nothing, running_out, binds, spends, picks, passes, wants, on_truth, on_number, checks, value_grows}
+use Rattle.ada_semantics.proofs.Grown.{More, given, failing, nothing, running_out, binds, spends, picks, passes, wants, on_truth, on_number, checks, value_grows, located_grows, passed_grows}
 
 -- ---- pieces that evaluate nothing
-
-position_grows : (b : Option Bounds) (c : Bool) (p : Place) (v : Val) (n k : ℕ) → More k (position_in b c p v n) (position_in b c p v (n + k))
-position_grows (Some b) c p (number x) n k = picks _ k _ _ _ _ (given _ n k) (picks c k _ _ _ _ (failing _ k) (nothing k))
-position_grows _ c p v n k = nothing k
 
 back_grows : (b : Option Return) (k : ℕ) (x y : Res Stop) (go to : Return → Res Stop) → More k x y → ((r : Return) → More k (go r) (to r)) →
     More k (elim b [ None ↦ x | Some r ↦ go r ]) (elim b [ None ↦ y | Some r ↦ to r ])
@@ -90,35 +85,11 @@ module _ (calls others : Calls) (k : ℕ) (agree : CallsGrow k calls others) whe
   value : (e : Ex) (f : Frame) (n : ℕ) → More k (value_of calls e f n) (value_of others e f (n + k))
   value e f n = value_grows calls others k agree e f n
 
-  -- ---- targets and actuals
-
-  spots_grows : (path : List Step) (s : Slot) (f : Frame) (n : ℕ) → More k (spots_of calls path s f n) (spots_of others path s f (n + k))
-  spots_grows [] s f n = given _ n k
-  spots_grows (to_component j count ∷ rest) s f n = binds k _ _ _ _ (spots_grows rest (component_slot j s) f n) (λ ss m. given _ m k)
-  spots_grows (to_item b c e ∷ rest) s f n =
-      binds k _ _ _ _ (value e f n) (λ v m. binds k _ _ _ _ (position_grows (bounds_of b s) c (place_of e) v m k) (λ j r.
-      binds k _ _ _ _ (spots_grows rest (item_slot j s) f r) (λ ss x. given _ x k)))
-
-  located_grows : (t : Target) (f : Frame) (n : ℕ) → More k (located calls t f n) (located others t f (n + k))
-  located_grows t f n = binds k _ _ _ _ (spots_grows t.path (f.state t.var) f n) (λ ss m.
-      picks (reaches ss (f.state t.var)) k _ _ _ _ (given ss m k) (nothing k))
-
   fitting_grows : (fit : Fit) (e : Ex) (f : Frame) (n : ℕ) → More k (fitting calls fit e f n) (fitting others fit e f (n + k))
   fitting_grows fit e f n = binds k _ _ _ _ (value e f n) (λ v m. checks fit (place_of e) v m k)
 
   holds_grows : {A : Type 0} (c : CheckKind) (e : Ex) (f : Frame) (n : ℕ) (go to : ℕ → Res A) → ((m : ℕ) → More k (go m) (to (m + k))) → More k (holds_at calls c e f n go) (holds_at others c e f (n + k) to)
   holds_grows c e f n go to w = binds k _ _ _ _ (value e f n) (λ v m. on_truth v k _ _ (λ b. passes b (place_of e) c k (go m) (to (m + k)) (w m)))
-
-  one_passed_grows : (a : Actual) (f : Frame) (n : ℕ) → More k (one_passed calls a f n) (one_passed others a f (n + k))
-  one_passed_grows (pass_in j fit e) f n = binds k _ _ _ _ (fitting_grows fit e f n) (λ v m. given _ m k)
-  one_passed_grows (pass_out j t fit) f n = binds k _ _ _ _ (located_grows t f n) (λ ss m. given _ m k)
-  one_passed_grows (pass_in_out j t inward fit) f n = binds k _ _ _ _ (located_grows t f n) (λ ss m.
-      binds k _ _ _ _ (wants (whole (slot_in ss (f.state t.var))) m k) (λ v r.
-      binds k _ _ _ _ (checks inward t.place v r k) (λ w x. given _ x k)))
-
-  passed_grows : (as' : List Actual) (f : Frame) (n : ℕ) → More k (passed calls as' f n) (passed others as' f (n + k))
-  passed_grows [] f n = given _ n k
-  passed_grows (a ∷ as') f n = binds k _ _ _ _ (one_passed_grows a f n) (λ p m. binds k _ _ _ _ (passed_grows as' f m) (λ ps j. given _ j k))
 
   -- ---- the group of a loop
 
@@ -160,8 +131,8 @@ module _ (calls others : Calls) (k : ℕ) (agree : CallsGrow k calls others) whe
 
     action_grows : (p : Place) (a : Ac) (f : Frame) (n : ℕ) → More k (action_of calls p a f n) (action_of others p a f (n + k))
     action_grows p skip f n = given _ n k
-    action_grows p (assign t fit e) f n = binds k _ _ _ _ (located_grows t f n) (λ ss m. binds k _ _ _ _ (fitting_grows fit e f m) (λ v j. given _ j k))
-    action_grows p (invoke q as') f n = binds k _ _ _ _ (passed_grows as' f n) (λ ps m.
+    action_grows p (assign t fit e) f n = binds k _ _ _ _ (located_grows calls others k agree t f n) (λ ss m. binds k _ _ _ _ (fitting_grows fit e f m) (λ v j. given _ j k))
+    action_grows p (invoke q as') f n = binds k _ _ _ _ (passed_grows calls others k agree as' f n) (λ ps m.
         binds k _ _ _ _ (record { grows = agree q (with_params ps (entered f.state)) m }) (λ s j. came_grows p ps f s j k))
     action_grows p (branch bs) f n = branch_grows bs f n
     action_grows p (case_of e as') f n = binds k _ _ _ _ (value e f n) (λ v m. on_number v k _ _ (λ x. selected_grows as' x f m))
@@ -186,7 +157,7 @@ module _ (calls others : Calls) (k : ℕ) (agree : CallsGrow k calls others) whe
 
     selected_grows : (as' : Alternatives) (x : ℤ) (f : Frame) (n : ℕ) → More k (selected calls as' x f n) (selected others as' x f (n + k))
     selected_grows no_alternatives x f n = nothing k
-    selected_grows (alternative ranges is_others ss as') x f n = picks (is_others || lies_in ranges x) k _ _ _ _ (run_grows ss f n) (selected_grows as' x f n)
+    selected_grows (alternative choices is_others ss as') x f n = picks (is_others || chosen_in choices x) k _ _ _ _ (run_grows ss f n) (selected_grows as' x f n)
 
   -- ---- calls
 

@@ -5,3 +5,4 @@ pub mod AgreedRunning
 pub mod Grown
 pub mod GrownRunning
 pub mod OneAnswer
+pub mod Seen

@@ -1,18 +1,20 @@
 -- No evaluation leaves more of the budget than it was given, where no call does.
-use Rattle.std.proofs.Common.{ℕ, zero, suc, ◌≤◌, arith, Bool, true, false, Option, Some, None, Ok, Err, Result, ℤ, pos, ◌+ℤ◌}
+use Rattle.std.proofs.Common.{ℕ, zero, suc, ◌≤◌, arith, Bool, true, false, List, [], ◌∷◌, Option, Some, None, Ok, Err, Result, ℤ, pos, ◌+ℤ◌}
 use Rattle.ada_values.specs.Value.{Val, number, truth, array, record_of}
 use Rattle.ada_values.specs.declared.place.Place.{Place}
 use Rattle.ada_values.specs.declared.scalars.OpFault.{OpFault}
 use Rattle.typed_units.specs.declared.checks.CheckKind.{CheckKind}
 use Rattle.typed_units.specs.declared.checks.SiteKey.{SiteKey}
+use Rattle.typed_units.specs.declared.operators.Bounds.{Bounds}
 use Rattle.typed_units.specs.declared.operators.Quantifier.{Quantifier}
 use Rattle.typed_units.specs.declared.operators.Relation.{Relation}
 use Rattle.typed_units.specs.declared.operators.Relation.TheVariants as relation
-use Rattle.typed_units.specs.Syntax.{Fit, Op1, first, last, length_at, succ_at, pred_at, same, negation, unary, convert, Op2, binary, compare, item, param, index, Ex, at, Nd, static, read, component, op1, op2, connect, member, call, aggregate, choose, quantified, Exs, no_exs, fitted, Arms, other, arm, Assocs, no_assocs, assoc}
+use Rattle.typed_units.specs.Syntax.{Fit, Op1, first, last, length_at, succ_at, pred_at, same, negation, unary, convert, Op2, binary, compare, item, index, Ex, at, Nd, static, read, component, op1, op2, connect, member, call, aggregate, choose, quantified, Path, here, to_component, to_item, Target, target, Actual, pass_in, pass_out, pass_in_out, Actuals, no_actuals, actual, Arms, other, arm, Assocs, no_assocs, assoc}
 use Rattle.ada_semantics.specs.Outcome.{Res, gives, fails, short, unset, bind, spend, pick, wanted, check}
-use Rattle.ada_semantics.specs.Operators.{keeps, checked, computed, apply1, apply2, related, item_of, member_of, truth_of, number_of, quantify, decides, span, stops_at, claims_any, fill}
-use Rattle.ada_semantics.specs.Store.{full, Slots, empties, wholes, component_slot, Store, put, Frame, set, entered}
-use Rattle.ada_semantics.specs.Values.{Calls, place_of, result_of, value_of, node_value, slot_of, values_of, chosen, associated}
+use Rattle.ada_semantics.specs.Operators.{keeps, keeps_each, checked, checked_each, computed, apply1, apply2, related, item_of, member_of, truth_of, number_of, quantify, decides, span, stops_at, claims_any, fill}
+use Rattle.ada_semantics.specs.Store.{Slot, full, Slots, empties, whole, wholes, component_slot, item_slot, Store, Frame, set, entered}
+use Rattle.ada_semantics.specs.Targets.{target_place, var_of, bounds_of, position_in, reaches, slot_in, with_params}
+use Rattle.ada_semantics.specs.Values.{Calls, place_of, result_of, value_of, node_value, slot_of, spots_of, located, one_passed, passed, chosen, associated}
 use Rattle.ada_semantics.specs.Budget.{Left, Took, CallsTake, ValuesTake}
 
 -- what a value leaves
@@ -92,6 +94,13 @@ on_number (record_of vs) n go h = nothing n
 pub checks : (fit : Fit) (p : Place) (v : Val) (n : ℕ) → Keeps n (checked fit p v n)
 checks fit p v n = passes (keeps fit v) p _ n _ (given v n)
 
+pub checks_each : (bs : List Bounds) (p : Place) (v : Val) (n : ℕ) → Keeps n (checked_each bs p v n)
+checks_each bs p v n = passes (keeps_each bs v) p _ n _ (given v n)
+
+pub position_left : (b : Option Bounds) (c : Bool) (p : Place) (v : Val) (n : ℕ) → Keeps n (position_in b c p v n)
+position_left (Some b) c p (number x) n = picked _ n _ _ (given _ n) (picked c n _ _ (failing _ n) (nothing n))
+position_left _ c p v n = nothing n
+
 -- ---- operators
 
 pub computes : (r : Result ℤ OpFault) (p q : Place) (n : ℕ) → Keeps n (computed r p q n)
@@ -145,43 +154,60 @@ result_left p (Some s) n = wants _ n
 module _ (calls : Calls) (take : CallsTake calls) where
   mutual
     pub value_left : (e : Ex) (f : Frame) (n : ℕ) → Keeps n (value_of calls e f n)
-    value_left (at p x) f n = (spends n _ (λ m. node_left p x f m))
+    value_left (at p t x) f n = (spends n _ (λ m. node_left x f m))
 
-    node_left : (p : Place) (x : Nd) (f : Frame) (n : ℕ) → Keeps n (node_value calls p x f n)
-    node_left p (static v) f n = given _ n
-    node_left p (read w x) f n = wants _ n
-    node_left p (component k a) f n = bound (slot_of calls a f n) n _ (slot_left a f n) (λ s m. wants _ m)
-    node_left p (op1 k a) f n = bound (value_of calls a f n) n _ (value_left a f n) (λ v m. apply1_left k (place_of a) v m)
-    node_left p (op2 k a b) f n =
+    node_left : (x : Nd) (f : Frame) (n : ℕ) → Keeps n (node_value calls x f n)
+    node_left (static v) f n = given _ n
+    node_left (read p w x) f n = wants _ n
+    node_left (component k a) f n = bound (slot_of calls a f n) n _ (slot_left a f n) (λ s m. wants _ m)
+    node_left (op1 k a) f n = bound (value_of calls a f n) n _ (value_left a f n) (λ v m. apply1_left k (place_of a) v m)
+    node_left (op2 k a b) f n =
         bound (value_of calls a f n) n _ (value_left a f n) (λ u m. bound (value_of calls b f m) m _ (value_left b f m) (λ v j. apply2_left k (place_of b) u v j))
-    node_left p (connect c a b) f n =
+    node_left (connect c a b) f n =
         bound (value_of calls a f n) n _ (value_left a f n) (λ u m. on_truth u m _ (λ x. picked (stops_at c x) m _ _ (given _ m)
         (bound (value_of calls b f m) m _ (value_left b f m) (λ v j. on_truth v j _ (λ y. given _ j)))))
-    node_left p (member is a l h) f n =
+    node_left (member is a l h) f n =
         bound (value_of calls a f n) n _ (value_left a f n) (λ u m. bound (value_of calls l f m) m _ (value_left l f m) (λ v j.
         bound (value_of calls h f j) j _ (value_left h f j) (λ w k. member_left is u v w k)))
-    node_left p (call q es) f n =
-        bound (values_of calls es (entered f.state) f n) n _ (values_left es (entered f.state) f n) (λ s m.
-        bound (calls q s m) m _ (record { left = take q s m }) (λ t j. result_left p t j))
-    node_left p (aggregate c b es) f n =
+    node_left (call p q as') f n =
+        bound (passed calls as' f n) n _ (passed_left as' f n) (λ ps m.
+        bound (calls q (with_params ps (entered f.state)) m) m _ (record { left = take q (with_params ps (entered f.state)) m }) (λ t j. result_left p t j))
+    node_left (aggregate c b es) f n =
         bound (associated calls es b.first (empties (span b.first b.last)) f n) n _ (associated_left es b.first (empties (span b.first b.last)) f n) (λ ss m.
         bound (wanted (wholes ss) m) m _ (wants (wholes ss) m) (λ vs j. given _ j))
-    node_left p (choose es) f n = chosen_left es f n
-    node_left p (quantified q k l h e) f n =
+    node_left (choose es) f n = chosen_left es f n
+    node_left (quantified q k l h e) f n =
         bound (value_of calls l f n) n _ (value_left l f n) (λ u m. bound (value_of calls h f m) m _ (value_left h f m) (λ v j.
         on_number u j _ (λ lo. on_number v j _ (λ hi. quantify_left (span lo hi) q lo (λ i r. value_of calls e (set f (index k) (full (number i))) r) j
         (λ i r. value_left e (set f (index k) (full (number i))) r)))))
 
     slot_left : (e : Ex) (f : Frame) (n : ℕ) → Keeps n (slot_of calls e f n)
-    slot_left (at p (read w x)) f n = (spends n _ (λ m. given _ m))
-    slot_left (at p (component k a)) f n = (spends n _ (λ m. bound (slot_of calls a f m) m _ (slot_left a f m) (λ s j. given (component_slot k s) j)))
-    slot_left (at p x) f n = (spends n _ (λ m. bound (node_value calls p x f m) m _ (node_left p x f m) (λ v j. given (full v) j)))
+    slot_left (at p t (read q w x)) f n = (spends n _ (λ m. given _ m))
+    slot_left (at p t (component k a)) f n = (spends n _ (λ m. bound (slot_of calls a f m) m _ (slot_left a f m) (λ s j. given (component_slot k s) j)))
+    slot_left (at p t x) f n = (spends n _ (λ m. bound (node_value calls x f m) m _ (node_left x f m) (λ v j. given (full v) j)))
 
-    values_left : (es : Exs) (s : Store) (f : Frame) (n : ℕ) → Keeps n (values_of calls es s f n)
-    values_left no_exs s f n = given _ n
-    values_left (fitted k fit e es) s f n =
-        bound (value_of calls e f n) n _ (value_left e f n) (λ v m. bound (checked fit (place_of e) v m) m _ (checks fit (place_of e) v m) (λ w j.
-        values_left es (put s (param k) (full w)) f j))
+    spots_left : (path : Path) (s : Slot) (f : Frame) (n : ℕ) → Keeps n (spots_of calls path s f n)
+    spots_left here s f n = given _ n
+    spots_left (to_component k count rest) s f n = bound (spots_of calls rest (component_slot k s) f n) n _ (spots_left rest (component_slot k s) f n) (λ ss m. given _ m)
+    spots_left (to_item b c e rest) s f n =
+        bound (value_of calls e f n) n _ (value_left e f n) (λ v m. bound (position_in (bounds_of b s) c (place_of e) v m) m _ (position_left (bounds_of b s) c (place_of e) v m) (λ k j.
+        bound (spots_of calls rest (item_slot k s) f j) j _ (spots_left rest (item_slot k s) f j) (λ ss r. given _ r)))
+
+    pub located_left : (t : Target) (f : Frame) (n : ℕ) → Keeps n (located calls t f n)
+    located_left (target p x path) f n = bound (spots_of calls path (f.state x) f n) n _ (spots_left path (f.state x) f n) (λ ss m.
+        picked (reaches ss (f.state x)) m _ _ (given ss m) (nothing m))
+
+    one_passed_left : (a : Actual) (f : Frame) (n : ℕ) → Keeps n (one_passed calls a f n)
+    one_passed_left (pass_in k fit e) f n = bound (value_of calls e f n) n _ (value_left e f n) (λ v m.
+        bound (checked fit (place_of e) v m) m _ (checks fit (place_of e) v m) (λ w j. given _ j))
+    one_passed_left (pass_out k t fit) f n = bound (located calls t f n) n _ (located_left t f n) (λ ss m. given _ m)
+    one_passed_left (pass_in_out k t inward fit) f n = bound (located calls t f n) n _ (located_left t f n) (λ ss m.
+        bound (wanted (whole (slot_in ss (f.state (var_of t)))) m) m _ (wants _ m) (λ v j.
+        bound (checked inward (target_place t) v j) j _ (checks inward (target_place t) v j) (λ w r. given _ r)))
+
+    pub passed_left : (as' : Actuals) (f : Frame) (n : ℕ) → Keeps n (passed calls as' f n)
+    passed_left no_actuals f n = given _ n
+    passed_left (actual a as') f n = bound (one_passed calls a f n) n _ (one_passed_left a f n) (λ p m. bound (passed calls as' f m) m _ (passed_left as' f m) (λ ps j. given _ j))
 
     chosen_left : (es : Arms) (f : Frame) (n : ℕ) → Keeps n (chosen calls es f n)
     chosen_left (other e) f n = value_left e f n
@@ -190,14 +216,14 @@ module _ (calls : Calls) (take : CallsTake calls) where
 
     associated_left : (es : Assocs) (x : ℤ) (ss : Slots) (f : Frame) (n : ℕ) → Keeps n (associated calls es x ss f n)
     associated_left no_assocs x ss f n = given _ n
-    associated_left (assoc ranges others fit e es) x ss f n =
+    associated_left (assoc ranges others bs e es) x ss f n =
         picked (claims_any ranges others x ss) n _ _
-        (bound (value_of calls e f n) n _ (value_left e f n) (λ v m. bound (checked fit (place_of e) v m) m _ (checks fit (place_of e) v m) (λ w j.
+        (bound (value_of calls e f n) n _ (value_left e f n) (λ v m. bound (checked_each bs (place_of e) v m) m _ (checks_each bs (place_of e) v m) (λ w j.
         associated_left es x (fill ranges others x w ss) f j)))
         (associated_left es x ss f n)
 
   pub value_took : (e : Ex) (f : Frame) (n : ℕ) → Took n (value_of calls e f n)
-  value_took (at p x) f n = spent n _ (λ m. node_left p x f m)
+  value_took (at p t x) f n = spent n _ (λ m. node_left x f m)
 
 pub values_take : ValuesTake
 values_take calls take e f n = value_took calls take e f n

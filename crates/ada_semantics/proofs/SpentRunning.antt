@@ -4,23 +4,18 @@ use Rattle.ada_values.specs.Value.{Val, number}
 use Rattle.ada_values.specs.declared.place.Place.{Place}
 use Rattle.typed_units.specs.declared.checks.CheckKind.{CheckKind}
 use Rattle.typed_units.specs.declared.checks.CheckKind.TheVariants as kind
-use Rattle.typed_units.specs.declared.operators.Bounds.{Bounds}
-use Rattle.typed_units.specs.Syntax.{Fit, Var, param, turn, Ex, Step, to_component, to_item, Target, Actual, pass_in, pass_out, pass_in_out, Way, Demand, invariant, variant, Head, forever, while, for, St, st, Ac, skip, assign, invoke, branch, case_of, loop, exit, exit_when, return, give, assert, assume, Sts, done, then, Branches, otherwise, when, Alternatives, no_alternatives, alternative, Routine}
+use Rattle.typed_units.specs.Syntax.{Fit, Var, param, turn, Ex, Way, Demand, invariant, variant, Head, forever, while, for, St, st, Ac, skip, assign, invoke, branch, case_of, loop, exit, exit_when, return, give, assert, assume, Sts, done, then, Branches, otherwise, when, Alternatives, no_alternatives, alternative, Routine}
 use Rattle.ada_semantics.specs.Outcome.{Res, gives, bind, wanted}
-use Rattle.ada_semantics.specs.Store.{Slot, full, whole, component_slot, item_slot, Store, Frame, set, enter_loop, entered, with_globals, begin}
-use Rattle.ada_semantics.specs.Operators.{span, checked, lies_in}
-use Rattle.ada_semantics.specs.Values.{Calls, place_of, value_of}
-use Rattle.ada_semantics.specs.Targets.{position_in, bounds_of, spots_of, reaches, located, slot_in, write}
-use Rattle.ada_semantics.specs.Running.{Stop, goes, leaves, returns, next, holds_at, fitting, Return, Passed, one_passed, passed, with_params, copied_back, came_back, numbers_of, variant_check, demanded, moved_since, invariant_kind, Round, again, over, in_loop, Turn, one_turn, after_round, turns_while, turns_over, looped, step_of, action_of, run_of, branch_of, selected}
+use Rattle.ada_semantics.specs.Store.{full, whole, Store, Frame, set, enter_loop, entered, with_globals, begin}
+use Rattle.ada_semantics.specs.Operators.{span, checked, chosen_in}
+use Rattle.ada_semantics.specs.Targets.{Return, Passed, with_params, write}
+use Rattle.ada_semantics.specs.Values.{Calls, place_of, value_of, located, passed}
+use Rattle.ada_semantics.specs.Running.{Stop, goes, leaves, returns, next, holds_at, fitting, copied_back, came_back, numbers_of, variant_check, demanded, moved_since, invariant_kind, Round, again, over, in_loop, Turn, one_turn, after_round, turns_while, turns_over, looped, step_of, action_of, run_of, branch_of, selected}
 use Rattle.ada_semantics.specs.Plain.{condition, finished, ended, one_call, routine_at, call_of, calls_within}
 use Rattle.ada_semantics.specs.Budget.{CallsTake, RunsTake, ProgramsTake}
-use Rattle.ada_semantics.proofs.Spent.{Keeps, given, failing, nothing, running_out, bound, spends, picked, wants, passes, on_truth, on_number, checks, value_left}
+use Rattle.ada_semantics.proofs.Spent.{Keeps, given, failing, nothing, running_out, bound, spends, picked, wants, passes, on_truth, on_number, checks, value_left, located_left, passed_left}
 
 -- ---- pieces that evaluate nothing
-
-pub position_left : (b : Option Bounds) (c : Bool) (p : Place) (v : Val) (n : ℕ) → Keeps n (position_in b c p v n)
-position_left (Some b) c p (number x) n = picked _ n _ _ (given _ n) (picked c n _ _ (failing _ n) (nothing n))
-position_left _ c p v n = nothing n
 
 back_left : (b : Option Return) (n : ℕ) (x : Res Stop) (go : Return → Res Stop) → Keeps n x → ((r : Return) → Keeps n (go r)) → Keeps n (elim b [ None ↦ x | Some r ↦ go r ])
 back_left None n x go w h = w
@@ -77,35 +72,11 @@ module _ (calls : Calls) (take : CallsTake calls) where
   value : (e : Ex) (f : Frame) (n : ℕ) → Keeps n (value_of calls e f n)
   value e f n = value_left calls take e f n
 
-  -- ---- targets and actuals
-
-  spots_left : (path : List Step) (s : Slot) (f : Frame) (n : ℕ) → Keeps n (spots_of calls path s f n)
-  spots_left [] s f n = given _ n
-  spots_left (to_component k count ∷ rest) s f n = bound (spots_of calls rest (component_slot k s) f n) n _ (spots_left rest (component_slot k s) f n) (λ ss m. given _ m)
-  spots_left (to_item b c e ∷ rest) s f n =
-      bound (value_of calls e f n) n _ (value e f n) (λ v m. bound (position_in (bounds_of b s) c (place_of e) v m) m _ (position_left (bounds_of b s) c (place_of e) v m) (λ k j.
-      bound (spots_of calls rest (item_slot k s) f j) j _ (spots_left rest (item_slot k s) f j) (λ ss r. given _ r)))
-
-  located_left : (t : Target) (f : Frame) (n : ℕ) → Keeps n (located calls t f n)
-  located_left t f n = bound (spots_of calls t.path (f.state t.var) f n) n _ (spots_left t.path (f.state t.var) f n) (λ ss m.
-      picked (reaches ss (f.state t.var)) m _ _ (given ss m) (nothing m))
-
   fitting_left : (fit : Fit) (e : Ex) (f : Frame) (n : ℕ) → Keeps n (fitting calls fit e f n)
   fitting_left fit e f n = bound (value_of calls e f n) n _ (value e f n) (λ v m. checks fit (place_of e) v m)
 
   holds_left : {A : Type 0} (k : CheckKind) (e : Ex) (f : Frame) (n : ℕ) (go : ℕ → Res A) → ((m : ℕ) → Keeps m (go m)) → Keeps n (holds_at calls k e f n go)
   holds_left k e f n go h = bound (value_of calls e f n) n _ (value e f n) (λ v m. on_truth v m _ (λ b. passes b (place_of e) k m (go m) (h m)))
-
-  one_passed_left : (a : Actual) (f : Frame) (n : ℕ) → Keeps n (one_passed calls a f n)
-  one_passed_left (pass_in k fit e) f n = bound (fitting calls fit e f n) n _ (fitting_left fit e f n) (λ v m. given _ m)
-  one_passed_left (pass_out k t fit) f n = bound (located calls t f n) n _ (located_left t f n) (λ ss m. given _ m)
-  one_passed_left (pass_in_out k t inward fit) f n = bound (located calls t f n) n _ (located_left t f n) (λ ss m.
-      bound (wanted (whole (slot_in ss (f.state t.var))) m) m _ (wants _ m) (λ v j.
-      bound (checked inward t.place v j) j _ (checks inward t.place v j) (λ w r. given _ r)))
-
-  passed_left : (as' : List Actual) (f : Frame) (n : ℕ) → Keeps n (passed calls as' f n)
-  passed_left [] f n = given _ n
-  passed_left (a ∷ as') f n = bound (one_passed calls a f n) n _ (one_passed_left a f n) (λ p m. bound (passed calls as' f m) m _ (passed_left as' f m) (λ ps j. given _ j))
 
   -- ---- the group of a loop
 
@@ -141,8 +112,8 @@ module _ (calls : Calls) (take : CallsTake calls) where
 
     action_left : (p : Place) (a : Ac) (f : Frame) (n : ℕ) → Keeps n (action_of calls p a f n)
     action_left p skip f n = given _ n
-    action_left p (assign t fit e) f n = bound (located calls t f n) n _ (located_left t f n) (λ ss m. bound (fitting calls fit e f m) m _ (fitting_left fit e f m) (λ v j. given _ j))
-    action_left p (invoke q as') f n = bound (passed calls as' f n) n _ (passed_left as' f n) (λ ps m.
+    action_left p (assign t fit e) f n = bound (located calls t f n) n _ (located_left calls take t f n) (λ ss m. bound (fitting calls fit e f m) m _ (fitting_left fit e f m) (λ v j. given _ j))
+    action_left p (invoke q as') f n = bound (passed calls as' f n) n _ (passed_left calls take as' f n) (λ ps m.
         bound (calls q (with_params ps (entered f.state)) m) m _ (record { left = take q (with_params ps (entered f.state)) m }) (λ s j. came_left p ps f s j))
     action_left p (branch bs) f n = branch_left bs f n
     action_left p (case_of e as') f n = bound (value_of calls e f n) n _ (value e f n) (λ v m. on_number v m _ (λ x. selected_left as' x f m))
@@ -165,7 +136,7 @@ module _ (calls : Calls) (take : CallsTake calls) where
 
     selected_left : (as' : Alternatives) (x : ℤ) (f : Frame) (n : ℕ) → Keeps n (selected calls as' x f n)
     selected_left no_alternatives x f n = nothing n
-    selected_left (alternative ranges others ss as') x f n = picked (others || lies_in ranges x) n _ _ (run_left ss f n) (selected_left as' x f n)
+    selected_left (alternative choices others ss as') x f n = picked (others || chosen_in choices x) n _ _ (run_left ss f n) (selected_left as' x f n)
 
   -- ---- calls
 

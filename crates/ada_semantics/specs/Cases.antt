@@ -1,5 +1,6 @@
 -- The words in which the sample programs are written, with the places that things have in their source.
 use Rattle.std.specs.Prelude.{ℕ, Bool, true, false, List, [], ◌∷◌, map, Option, Some, None, ℤ, pos, negsuc}
+use Rattle.ada_values.specs.Scalars.{integer, integer_last}
 use Rattle.ada_values.specs.Value.{Val, number, truth}
 use Rattle.ada_values.specs.declared.place.Place.{Place}
 use Rattle.ada_values.specs.declared.scalars.Op.{Op}
@@ -13,7 +14,7 @@ use Rattle.typed_units.specs.declared.checks.CheckKind.{CheckKind}
 use Rattle.typed_units.specs.declared.checks.SiteKey.{SiteKey}
 use Rattle.typed_units.specs.declared.programs.Mode.{Mode}
 use Rattle.typed_units.specs.declared.programs.Mode.TheVariants as mode
-use Rattle.typed_units.specs.Syntax.{Var, param, Fit, present, same, negation, unary, convert, binary, compare, Op1, Ex, at, static, read, op1, op2, connect, Step, Target, St, st, assign, invoke, branch, Branches, otherwise, when, give, assert, return, Actual, Sts, done, then, Formal, Routine, Text}
+use Rattle.typed_units.specs.Syntax.{Var, param, Fit, present, same, negation, unary, convert, binary, compare, Op1, Ex, at, Nd, static, read, op1, op2, connect, Path, here, Target, target, St, st, assign, invoke, branch, Branches, otherwise, when, give, assert, return, Actual, Actuals, no_actuals, actual, Sts, done, then, Formal, Routine, Text}
 use Rattle.ada_semantics.specs.Values.{place_of}
 use Rattle.ada_semantics.specs.Plain.{Plain, ends}
 pub mod Expressions
@@ -22,6 +23,11 @@ pub mod Loops
 pub mod Calls
 pub mod Parts
 pub mod Search
+pub mod Contracts
+pub mod Operations
+pub mod Turns
+pub mod Pieces
+pub mod Starts
 
 -- ---- places
 
@@ -37,9 +43,6 @@ key l c k = record { place = place l c; kind = k }
 abbrev pub signed : ℤ → ℤ → Scalar
 signed lo hi = record { lo = lo; hi = hi; base_lo = lo; base_hi = hi; modulus = None }
 
-abbrev pub integer : Scalar
-integer = signed (negsuc 2147483647) (pos 2147483647)
-
 -- the base type of a range that fits 8 bits
 abbrev pub short : Scalar
 short = signed (negsuc 127) (pos 127)
@@ -53,30 +56,34 @@ to lo hi = record { first = lo; last = hi }
 
 -- the range check of `Natural`
 abbrev pub natural : Fit
-natural = Some (to (pos 0) (pos 2147483647))
+natural = Some (to (pos 0) (pos integer_last))
 
 -- ---- expressions, by the line and the column of their first token, or of their operator
 
+-- an expression that begins there; the samples don't tell subtypes, which change no run
+abbrev pub ex : Place → Nd → Ex
+ex p x = at p 0 x
+
 abbrev pub num : ℕ → ℕ → ℕ → Ex
-num l c n = at (place l c) (static (number (pos n)))
+num l c n = ex (place l c) (static (number (pos n)))
 
 abbrev pub name : ℕ → ℕ → Var → Ex
-name l c x = at (place l c) (read present x)
+name l c x = ex (place l c) (read (place l c) present x)
 
 -- a static truth value
 abbrev pub flag : ℕ → ℕ → Bool → Ex
-flag l c b = at (place l c) (static (truth b))
+flag l c b = ex (place l c) (static (truth b))
 
 -- an operator of one operand, which stands before it
 abbrev pub prefix : Op1 → ℕ → ℕ → Ex → Ex
-prefix o l c a = at (place l c) (op1 o a)
+prefix o l c a = ex (place l c) (op1 o a)
 
 -- an expression in parentheses, the first of which stands there
 abbrev pub parens : ℕ → ℕ → Ex → Ex
-parens l c (at p x) = at (place l c) x
+parens l c (at p t x) = at (place l c) t x
 
 abbrev pub calc : Op → Scalar → ℕ → ℕ → Ex → Ex → Ex
-calc o s l c a b = at (place_of a) (op2 (binary o s (place l c)) a b)
+calc o s l c a b = ex (place_of a) (op2 (binary o s (place l c)) a b)
 
 abbrev pub plus : ℕ → ℕ → Ex → Ex → Ex
 plus = calc op.Add integer
@@ -91,7 +98,7 @@ abbrev pub over : ℕ → ℕ → Ex → Ex → Ex
 over = calc op.Quo integer
 
 abbrev pub related : Relation → Ex → Ex → Ex
-related r a b = at (place_of a) (op2 (compare r) a b)
+related r a b = ex (place_of a) (op2 (compare r) a b)
 
 abbrev pub equal : Ex → Ex → Ex
 equal = related relation.Equal
@@ -103,7 +110,7 @@ abbrev pub greater : Ex → Ex → Ex
 greater = related relation.Greater
 
 abbrev pub both : Connective → Ex → Ex → Ex
-both c a b = at (place_of a) (connect c a b)
+both c a b = ex (place_of a) (connect c a b)
 
 -- ---- statements
 
@@ -112,10 +119,18 @@ seq [] = done
 seq (a ∷ rest) = then a (seq rest)
 
 abbrev pub whole_of : ℕ → ℕ → Var → Target
-whole_of l c x = record { place = place l c; var = x; path = [] }
+whole_of l c x = target (place l c) x here
+
+-- a step from an object to a part of it
+abbrev pub Step : Type 0
+Step = Path → Path
+
+abbrev pub path_through : List Step → Path
+path_through [] = here
+path_through (s ∷ ss) = s (path_through ss)
 
 abbrev pub part_of : ℕ → ℕ → Var → List Step → Target
-part_of l c x path = record { place = place l c; var = x; path = path }
+part_of l c x path = target (place l c) x (path_through path)
 
 -- an assignment to a whole object
 abbrev pub set_to : ℕ → ℕ → Var → Fit → Ex → St
@@ -130,8 +145,12 @@ claim l c e = st (place l c) (assert e)
 abbrev pub give_back : ℕ → ℕ → Fit → Ex → St
 give_back l c fit e = st (place l c) (give fit e)
 
+abbrev pub actuals : List Actual → Actuals
+actuals [] = no_actuals
+actuals (a ∷ as') = actual a (actuals as')
+
 abbrev pub call_of : ℕ → ℕ → ℕ → List Actual → St
-call_of l c q as' = st (place l c) (invoke q as')
+call_of l c q as' = st (place l c) (invoke q (actuals as'))
 
 -- `if` with one branch, and what stands after `else`
 abbrev pub if_so : ℕ → ℕ → Ex → List St → List St → St
@@ -140,7 +159,7 @@ if_so l c e ss els = st (place l c) (branch (when e (seq ss) (otherwise (seq els
 -- ---- subprograms
 
 abbrev pub formal : Mode → Formal
-formal m = record { mode = m; shape = 0 }
+formal m = record { mode = m; subtype = 0 }
 
 abbrev pub by_in : Formal
 by_in = formal mode.In
@@ -168,7 +187,7 @@ abbrev pub with_post : Ex → Routine → Routine
 with_post e r = record r { post = Some e }
 
 abbrev pub program : List Routine → Text
-program rs = record { shapes = []; globals = []; routines = rs }
+program rs = record { shapes = []; kinds = []; globals = []; routines = rs }
 
 abbrev pub one : Routine → Text
 one r = program (r ∷ [])

@@ -1,8 +1,8 @@
 pub mod Outcome
 pub mod Store
 pub mod Operators
-pub mod Values
 pub mod Targets
+pub mod Values
 pub mod Running
 pub mod Plain
 pub mod Budget

@@ -19,6 +19,8 @@ use Rattle.typed_units.specs.declared.operators.Quantifier.{Quantifier}
 use Rattle.typed_units.specs.declared.operators.Quantifier.TheVariants as quantifier
 use Rattle.typed_units.specs.declared.operators.Relation.{Relation}
 use Rattle.typed_units.specs.declared.operators.Relation.TheVariants as relation
+use Rattle.typed_units.specs.declared.statements.Choice.{Choice}
+use Rattle.typed_units.specs.declared.statements.Choice.TheVariants as choice
 use Rattle.typed_units.specs.declared.checks.CheckKind.TheVariants as kind
 use Rattle.typed_units.specs.declared.checks.SiteKey.{SiteKey}
 use Rattle.typed_units.specs.Syntax.{Fit, Op1, first, last, length_at, succ_at, pred_at, same, negation, unary, convert, Op2, binary, compare, item}
@@ -47,6 +49,14 @@ keeps (Some b) _ = true
 -- a value that is assigned, passed, returned or converted (Ada RM 3.5, 4.6, 5.2)
 abbrev pub checked : Fit → Place → Val → ℕ → Res Val
 checked fit p v n = check (keeps fit v) p kind.Range (gives v n)
+
+-- a value of several components, each with its own check, all of which stand there
+abbrev pub keeps_each : List Bounds → Val → Bool
+keeps_each [] v = true
+keeps_each (b ∷ bs) v = keeps (Some b) v && keeps_each bs v
+
+abbrev pub checked_each : List Bounds → Place → Val → ℕ → Res Val
+checked_each bs p v n = check (keeps_each bs v) p kind.Range (gives v n)
 
 abbrev pub ranged : Place → Scalar → ℤ → ℕ → Res Val
 ranged p s x n = check (within s.base_lo s.base_hi x) p kind.Range (gives (number x) n)
@@ -159,6 +169,15 @@ quantify (suc count) q i body n =
 abbrev pub lies_in : List Bounds → ℤ → Bool
 lies_in [] x = false
 lies_in (b ∷ rest) x = within b.first b.last x || lies_in rest x
+
+abbrev pub is_chosen : Choice → ℤ → Bool
+is_chosen (choice.Value y) x = int_eq x y
+is_chosen (choice.Range b) x = within b.first b.last x
+
+-- whether one of the choices of an alternative covers a value (Ada RM 5.4)
+abbrev pub chosen_in : List Choice → ℤ → Bool
+chosen_in [] x = false
+chosen_in (c ∷ rest) x = is_chosen c x || chosen_in rest x
 
 abbrev pub is_empty : Slot → Bool
 is_empty empty = true

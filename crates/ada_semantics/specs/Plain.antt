@@ -125,7 +125,7 @@ plain p q params globals n = plain_run p (routine_at p.routines q) params global
 
 abbrev pub param_fits : List Shape → Formal → Option Val → Bool
 param_fits shapes p None = false
-param_fits shapes p (Some v) = in_shape shapes p.shape v
+param_fits shapes p (Some v) = in_shape shapes p.subtype v
 
 -- the parameters of a run: a value in its subtype for each but the `out` parameters, in order
 abbrev pub params_fit : List Shape → List Formal → List Val → Bool

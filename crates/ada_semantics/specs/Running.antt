@@ -7,12 +7,12 @@ use Rattle.ada_values.specs.declared.place.Place.{Place}
 use Rattle.typed_units.specs.declared.checks.CheckKind.{CheckKind}
 use Rattle.typed_units.specs.declared.checks.CheckKind.TheVariants as kind
 use Rattle.typed_units.specs.declared.statements.Direction.TheVariants as direction
-use Rattle.typed_units.specs.Syntax.{Fit, Var, param, turn, answer, Ex, Target, Actual, pass_in, pass_out, pass_in_out, Way, Demand, invariant, variant, Head, forever, while, for, St, st, Ac, skip, assign, invoke, branch, case_of, loop, exit, exit_when, return, give, assert, assume, Sts, done, then, Branches, otherwise, when, Alternatives, no_alternatives, alternative}
+use Rattle.typed_units.specs.Syntax.{Fit, Var, param, turn, answer, Ex, Way, Demand, invariant, variant, Head, forever, while, for, St, st, Ac, skip, assign, invoke, branch, case_of, loop, exit, exit_when, return, give, assert, assume, Sts, done, then, Branches, otherwise, when, Alternatives, no_alternatives, alternative}
 use Rattle.ada_semantics.specs.Outcome.{Res, gives, fails, short, unset, bind, spend, pick, wanted, site, check}
-use Rattle.ada_semantics.specs.Store.{full, full_if, whole, put, Store, Frame, set, enter_loop, entered, with_globals}
-use Rattle.ada_semantics.specs.Operators.{span, checked, truth_of, number_of, lies_in}
-use Rattle.ada_semantics.specs.Values.{Calls, value_of, place_of}
-use Rattle.ada_semantics.specs.Targets.{Spot, located, slot_in, write}
+use Rattle.ada_semantics.specs.Store.{full, whole, Store, Frame, set, enter_loop, entered, with_globals}
+use Rattle.ada_semantics.specs.Operators.{span, checked, truth_of, number_of, chosen_in}
+use Rattle.ada_semantics.specs.Values.{Calls, value_of, place_of, located, passed}
+use Rattle.ada_semantics.specs.Targets.{var_of, write, Passed, with_params}
 
 -- how statements come to an end: they go on, leave the loop around them (Ada RM 5.7), or return from the subprogram
 -- (Ada RM 6.5)
@@ -40,41 +40,6 @@ abbrev pub fitting : Calls → Fit → Ex → Frame → ℕ → Res Val
 fitting calls fit e f n = bind (value_of calls e f n) (λ v m. checked fit (place_of e) v m)
 
 -- ---- procedure calls (Ada RM 6.4.1)
-
--- where a parameter is copied back to, and with which check
-pub record Return : Type 0 where
-  pub place : Place
-  pub var : Var
-  pub spots : List Spot
-  pub fit : Fit
-
--- an actual that was evaluated: the number of its formal, the parameter's value, where it has one, and its way back
-pub record Passed : Type 0 where
-  pub formal : ℕ
-  pub value : Option Val
-  pub back : Option Return
-
-abbrev pub return_to : Target → List Spot → Fit → Return
-return_to t spots fit = record { place = t.place; var = t.var; spots = spots; fit = fit }
-
-abbrev pub one_passed : Calls → Actual → Frame → ℕ → Res Passed
-one_passed calls (pass_in k fit e) f n = bind (fitting calls fit e f n) (λ v m. gives (record { formal = k; value = Some v; back = None }) m)
-one_passed calls (pass_out k t fit) f n =
-    bind (located calls t f n) (λ ss m. gives (record { formal = k; value = None; back = Some (return_to t ss fit) }) m)
-one_passed calls (pass_in_out k t inward fit) f n =
-    bind (located calls t f n) (λ ss m.
-    bind (wanted (whole (slot_in ss (f.state t.var))) m) (λ v j.
-    bind (checked inward t.place v j) (λ w r. gives (record { formal = k; value = Some w; back = Some (return_to t ss fit) }) r)))
-
--- the actuals, from left to right
-abbrev pub passed : Calls → List Actual → Frame → ℕ → Res (List Passed)
-passed calls [] f n = gives [] n
-passed calls (a ∷ as') f n = bind (one_passed calls a f n) (λ p m. bind (passed calls as' f m) (λ ps j. gives (p ∷ ps) j))
-
--- the callee's variables with its parameters
-abbrev pub with_params : List Passed → Store → Store
-with_params [] s = s
-with_params (p ∷ ps) s = with_params ps (put s (param p.formal) (full_if p.value))
 
 -- the copies back from left to right, where the callee left the variables `s`
 abbrev pub copied_back : List Passed → Store → Frame → ℕ → Res Stop
@@ -179,7 +144,7 @@ abbrev mutual
   -- Ada RM 5.1, 5.2
   action_of calls p skip f n = gives (goes f) n
   action_of calls p (assign t fit e) f n =
-      bind (located calls t f n) (λ ss m. bind (fitting calls fit e f m) (λ v j. gives (goes (write f t.var ss v)) j))
+      bind (located calls t f n) (λ ss m. bind (fitting calls fit e f m) (λ v j. gives (goes (write f (var_of t) ss v)) j))
   -- Ada RM 6.4, 6.4.1
   action_of calls p (invoke q as') f n =
       bind (passed calls as' f n) (λ ps m.
@@ -214,5 +179,5 @@ abbrev mutual
   -- the alternative with the selector's value (Ada RM 5.4)
   pub selected : Calls → Alternatives → ℤ → Frame → ℕ → Res Stop
   selected calls no_alternatives x f n = unset
-  selected calls (alternative ranges others ss as') x f n =
-      pick (others || lies_in ranges x) (run_of calls ss f n) (selected calls as' x f n)
+  selected calls (alternative choices others ss as') x f n =
+      pick (others || chosen_in choices x) (run_of calls ss f n) (selected calls as' x f n)

@@ -1,15 +1,20 @@
--- Where a target lies, and what is written there (Ada RM 5.2).
+-- Where a target lies, and what is written there, once its indexes are known (Ada RM 5.2).
 use Rattle.std.specs.Prelude.{ℕ, Bool, true, ◌&&◌, Option, Some, None, List, [], ◌∷◌}
 use Rattle.ada_values.specs.Value.{Val, number, array}
+use Rattle.ada_values.specs.Scalars.{within}
 use Rattle.ada_values.specs.declared.place.Place.{Place}
 use Rattle.typed_units.specs.declared.operators.Bounds.{Bounds}
 use Rattle.typed_units.specs.declared.checks.CheckKind.TheVariants as kind
-use Rattle.typed_units.specs.Syntax.{Var, Step, to_component, to_item, Target}
-use Rattle.ada_semantics.specs.Outcome.{Res, gives, fails, unset, bind, pick, site}
-use Rattle.ada_semantics.specs.Store.{Slot, full, parts, whole, components, component_slot, item_slot, is_array, with_item_value, with_slot, Frame, set}
+use Rattle.typed_units.specs.Syntax.{Fit, Var, param, Target, target}
+use Rattle.ada_semantics.specs.Outcome.{Res, gives, fails, unset, pick, site}
+use Rattle.ada_semantics.specs.Store.{Slot, full, full_if, parts, whole, components, component_slot, item_slot, is_array, with_item_value, with_slot, Store, put, Frame, set}
 use Rattle.ada_semantics.specs.Operators.{position}
-use Rattle.ada_values.specs.Scalars.{within}
-use Rattle.ada_semantics.specs.Values.{Calls, value_of, place_of}
+
+abbrev pub target_place : Target → Place
+target_place (target p x path) = p
+
+abbrev pub var_of : Target → Var
+var_of (target p x path) = x
 
 -- a step whose index is known: a component of so many, or the item at a position from 0
 pub data Spot : Type 0 where
@@ -31,25 +36,11 @@ position_in (Some b) is_checked p (number x) n =
     pick (within b.first b.last x) (gives (position b.first x) n) (pick is_checked (fails (site p kind.Index)) unset)
 position_in _ is_checked p v n = unset
 
--- the indexes of a path from left to right, where `s` is what the path begins at
-abbrev pub spots_of : Calls → List Step → Slot → Frame → ℕ → Res (List Spot)
-spots_of calls [] s f n = gives [] n
-spots_of calls (to_component k count ∷ rest) s f n =
-    bind (spots_of calls rest (component_slot k s) f n) (λ ss m. gives (component_spot k count ∷ ss) m)
-spots_of calls (to_item b c e ∷ rest) s f n =
-    bind (value_of calls e f n) (λ v m. bind (position_in (bounds_of b s) c (place_of e) v m) (λ k j.
-    bind (spots_of calls rest (item_slot k s) f j) (λ ss r. gives (item_spot k ∷ ss) r)))
-
 -- whether each array on the way is set
 abbrev pub reaches : List Spot → Slot → Bool
 reaches [] s = true
 reaches (component_spot k count ∷ rest) s = reaches rest (component_slot k s)
 reaches (item_spot k ∷ rest) s = is_array s && reaches rest (item_slot k s)
-
--- where a target lies; a part of an array reads the array, after the checks of the indexes
-abbrev pub located : Calls → Target → Frame → ℕ → Res (List Spot)
-located calls t f n =
-    bind (spots_of calls t.path (f.state t.var) f n) (λ ss m. pick (reaches ss (f.state t.var)) (gives ss m) unset)
 
 -- what stands there
 abbrev pub slot_in : List Spot → Slot → Slot
@@ -65,3 +56,26 @@ written (item_spot k ∷ rest) v s = with_item_value k (whole (written rest v (i
 
 abbrev pub write : Frame → Var → List Spot → Val → Frame
 write f x spots v = set f x (written spots v (f.state x))
+
+-- ---- parameters (Ada RM 6.4.1)
+
+-- where a parameter is copied back to, and with which check
+pub record Return : Type 0 where
+  pub place : Place
+  pub var : Var
+  pub spots : List Spot
+  pub fit : Fit
+
+-- an actual that was evaluated: the number of its formal, the parameter's value, where it has one, and its way back
+pub record Passed : Type 0 where
+  pub formal : ℕ
+  pub value : Option Val
+  pub back : Option Return
+
+abbrev pub return_to : Target → List Spot → Fit → Return
+return_to t spots fit = record { place = target_place t; var = var_of t; spots = spots; fit = fit }
+
+-- the callee's variables with its parameters
+abbrev pub with_params : List Passed → Store → Store
+with_params [] s = s
+with_params (p ∷ ps) s = with_params ps (put s (param p.formal) (full_if p.value))

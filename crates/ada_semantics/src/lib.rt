@@ -3,7 +3,12 @@
 
 pub mod budgets;
 pub mod calls;
+pub mod contracts;
 pub mod expressions;
 pub mod loops;
+pub mod operations;
 pub mod parts;
+pub mod pieces;
+pub mod starts;
 pub mod statements;
+pub mod turns;

@@ -1,2 +1,3 @@
 pub mod Capped
 pub mod Reading
+pub mod Letters

@@ -90,11 +90,11 @@ pub both : (r : Option Item) (n : ℕ) → IfSome r (λ i. 1 ≤ i.length) → I
 both None n h k = tt
 both (Some i) n h k = (h, k)
 
-and_left : (a b : Bool) → (a && b) ≡ true → a ≡ true
+pub and_left : (a b : Bool) → (a && b) ≡ true → a ≡ true
 and_left true b e = refl
 and_left false b e = absurd (false≢true e)
 
-and_right : (a b : Bool) → (a && b) ≡ true → b ≡ true
+pub and_right : (a b : Bool) → (a && b) ≡ true → b ≡ true
 and_right true b e = e
 and_right false b e = absurd (false≢true e)
 

@@ -1,6 +1,8 @@
 -- Reserved words and identifiers.
-use Rattle.std.specs.Prelude.{ℕ, Option, Some, None, List, [], ◌∷◌, codes, if◌then◌else◌}
+use Rattle.std.specs.Prelude.{ℕ, zero, suc, ◌-◌, ◌&&◌, nat_le, Bool, Option, Some, None, List, [], ◌∷◌, map, codes, slice_index, if◌then◌else◌}
+use Rattle.std.specs.Char.{to_ascii_lowercase}
 use Rattle.std.specs.Str.{str_eq_ignore_ascii_case}
+use Rattle.ada_text.specs.declared.reserved.TheConstants.{WORDS_BY_LETTER}
 use Rattle.ada_text.specs.declared.reserved.Reserved.{Reserved}
 use Rattle.ada_text.specs.declared.reserved.Reserved.TheVariants as word
 use Rattle.ada_text.specs.declared.token.TokenKind.{TokenKind}
@@ -47,3 +49,23 @@ kind_of_word (Some w) = kind.Word w
 -- an identifier that is a reserved word is that word (Ada RM 2.9)
 unfoldable pub word_kind : List ℕ → TokenKind
 word_kind text = kind_of_word (word_among reserved_words text)
+
+-- ---- the words by their first letter. No public contract rests on these definitions: that they have all words is proved.
+
+-- the first letter of a word, in lower case
+abbrev pub letter_of : List ℕ → ℕ
+letter_of text = to_ascii_lowercase (slice_index text 0)
+
+abbrev pub is_letter : ℕ → Bool
+is_letter letter = nat_le 97 letter && nat_le letter 122
+
+abbrev pub row_of : List (List (List ℕ × Reserved)) → ℕ → List (List ℕ × Reserved)
+row_of [] k = []
+row_of (r ∷ rs) zero = r
+row_of (r ∷ rs) (suc k) = row_of rs k
+
+unfoldable pub words_by_letter : List (List (List ℕ × Reserved))
+words_by_letter = map (λ r. map (λ w. (w.0.now, w.1)) r.now) WORDS_BY_LETTER
+
+unfoldable pub words_of : ℕ → List (List ℕ × Reserved)
+words_of letter = if is_letter letter then row_of words_by_letter (letter - 97) else []

@@ -5,12 +5,12 @@ ghost use Rattle.std.specs.Char.{is_ascii_alphabetic};
 ghost use Rattle.std.specs.Str.{str_eq_ignore_ascii_case};
 ghost use Rattle.ada_text.specs.Delimiters.{mark_among, mark_at};
 ghost use Rattle.ada_text.specs.Tokens.{item_at, word_at};
-ghost use Rattle.ada_text.specs.Words.{word_among, word_kind};
+ghost use Rattle.ada_text.specs.Words.{letter_of, row_of, word_among, word_kind, words_of};
 
 use crate::bytes::{byte_at, is_blank, line_length, numeral_length};
 use crate::delimiters::{DELIMITERS, Delimiter};
 use crate::number::number_at;
-use crate::reserved::{RESERVED_WORDS, Reserved};
+use crate::reserved::{Reserved, WORDS_BY_LETTER};
 use crate::token::{LexFault, TokenKind};
 
 /// A token, or white space or a comment, which have no kind.
@@ -41,12 +41,36 @@ fn word_among(mut table: &[(&[u8], Reserved)], text: &[u8]) -> Option<Reserved>
     None
 }
 
+/// The words of a row of a table.
+fn row_of(
+    table: &'static [&'static [(&'static [u8], Reserved)]],
+    number: usize,
+) -> &'static [(&'static [u8], Reserved)]
+    requires { number < length table.now }
+    ensures { map (λ w. (w.0.now, w.1)) result.now ≡ row_of (map (λ r. map (λ w. (w.0.now, w.1)) r.now) table.now) number }
+{
+    table[number]
+}
+
+/// The reserved words that begin with a letter in lower case; none where it is no letter.
+#[tactic(auto, unfolding(crate::specs::Words::words_of, crate::specs::Words::words_by_letter))]
+fn words_of(letter: u8) -> &'static [(&'static [u8], Reserved)]
+    ensures { map (λ w. (w.0.now, w.1)) result.now ≡ words_of letter }
+{
+    if b'a' <= letter && letter <= b'z' {
+        row_of(&WORDS_BY_LETTER, usize::from(letter - b'a'))
+    } else {
+        &[]
+    }
+}
+
 /// The reserved word that a text is, or an identifier.
-#[tactic(auto, unfolding(crate::specs::Words::word_kind, crate::specs::Words::reserved_words))]
+#[tactic(auto, using(crate::proofs::Letters::word_of_letter), unfolding(crate::specs::Words::word_kind))]
 fn word_kind(text: &[u8]) -> TokenKind
     ensures { result ≡ word_kind text.now }
 {
-    match word_among(&RESERVED_WORDS, text) {
+    let letter = byte_at(text, 0).to_ascii_lowercase();
+    match word_among(words_of(letter), text) {
         Some(word) => TokenKind::Word(word),
         None => TokenKind::Id,
     }

@@ -14,7 +14,7 @@ pub use delimiters::Delimiter;
 pub use lex::tokens;
 pub use places::line_col;
 pub use reserved::Reserved;
-pub use token::{LexFault, Span, Token, TokenKind, TokenList};
+pub use token::{LexFault, Span, Starved, Token, TokenKind, TokenList};
 
 #[cfg(test)]
 mod tests;

@@ -5,7 +5,7 @@ ghost use Rattle.std.specs.Prelude.{◌≡◌};
 use crate::delimiters::Delimiter;
 use crate::reserved::Reserved;
 use sqlite_items::Items;
-use std::alloc::AllocError;
+pub use std::alloc::AllocError as Starved;
 
 /// The bytes of a text from one place up to another, in bytes from 0.
 #[derive(Clone, Copy, Debug, PartialEq, Eq)]
@@ -52,12 +52,12 @@ pub enum LexFault {
     Starved,
 }
 
-impl From<AllocError> for LexFault {
+impl From<Starved> for LexFault {
     ghost use Rattle.ada_text.specs.declared.token.LexFault.TheVariants.{Starved};
 
     ghost from_gives = { λ _ fault. fault ≡ Starved };
 
-    fn from(_error: AllocError) -> LexFault {
+    fn from(_error: Starved) -> LexFault {
         LexFault::Starved
     }
 }

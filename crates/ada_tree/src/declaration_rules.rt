@@ -5,7 +5,7 @@ ghost use Rattle.ada_tree.specs.Declarations.{declaration_rule};
 
 use crate::chain::Chain;
 use crate::operations::joined;
-use crate::part::{DeclarationPart, Part};
+use crate::part::DeclarationPart;
 use crate::parts::Parts;
 use crate::rules::DeclarationRule;
 use ada_syntax::{Decl, DeclForm, Object};
@@ -26,13 +26,11 @@ pub fn apply_declaration_rule(
             let decl = parts.decl(alloc);
             let mut decls = parts.decls(alloc);
             decls.put_first(decl)?;
-            parts.put_first(Part::Declaration(DeclarationPart::Decls(decls)))?;
-            Ok(())
+            parts.put_declaration(alloc, DeclarationPart::Decls(decls))
         }
         // Decls =
         DeclarationRule::NoDecls => {
-            parts.put_first(Part::Declaration(DeclarationPart::Decls(Chain::new(alloc))))?;
-            Ok(())
+            parts.put_declaration(alloc, DeclarationPart::Decls(Chain::new(alloc)))
         }
         // Decl = type Id is TypeDef ;
         DeclarationRule::Type => {
@@ -41,11 +39,13 @@ pub fn apply_declaration_rule(
             parts.skip();
             let definition = parts.type_def(alloc);
             let end = parts.place();
-            parts.put_first(Part::Declaration(DeclarationPart::Decl(Decl {
-                span: joined(start, end),
-                form: DeclForm::Type(name, definition),
-            })))?;
-            Ok(())
+            parts.put_declaration(
+                alloc,
+                DeclarationPart::Decl(Decl {
+                    span: joined(start, end),
+                    form: DeclForm::Type(name, definition),
+                }),
+            )
         }
         // Decl = subtype Id is SubInd ;
         DeclarationRule::Subtype => {
@@ -54,11 +54,13 @@ pub fn apply_declaration_rule(
             parts.skip();
             let subtype = parts.sub_ind(alloc);
             let end = parts.place();
-            parts.put_first(Part::Declaration(DeclarationPart::Decl(Decl {
-                span: joined(start, end),
-                form: DeclForm::Subtype(name, subtype),
-            })))?;
-            Ok(())
+            parts.put_declaration(
+                alloc,
+                DeclarationPart::Decl(Decl {
+                    span: joined(start, end),
+                    form: DeclForm::Subtype(name, subtype),
+                }),
+            )
         }
         // Decl = Id Ids : Obj ;
         DeclarationRule::Object => {
@@ -68,29 +70,35 @@ pub fn apply_declaration_rule(
             let object = parts.object();
             let end = parts.place();
             names.put_first(name)?;
-            parts.put_first(Part::Declaration(DeclarationPart::Decl(Decl {
-                span: joined(name, end),
-                form: DeclForm::Object(names.into_items(), object),
-            })))?;
-            Ok(())
+            parts.put_declaration(
+                alloc,
+                DeclarationPart::Decl(Decl {
+                    span: joined(name, end),
+                    form: DeclForm::Object(names.into_items(), object),
+                }),
+            )
         }
         // Decl = Sub
         DeclarationRule::DeclSub => {
             let sub = parts.sub(alloc);
-            parts.put_first(Part::Declaration(DeclarationPart::Decl(Decl {
-                span: sub.span,
-                form: DeclForm::Sub(sub),
-            })))?;
-            Ok(())
+            parts.put_declaration(
+                alloc,
+                DeclarationPart::Decl(Decl {
+                    span: sub.span,
+                    form: DeclForm::Sub(sub),
+                }),
+            )
         }
         // Decl = Pragma
         DeclarationRule::DeclPragma => {
             let pragma = parts.pragma(alloc);
-            parts.put_first(Part::Declaration(DeclarationPart::Decl(Decl {
-                span: pragma.span,
-                form: DeclForm::Pragma(pragma),
-            })))?;
-            Ok(())
+            parts.put_declaration(
+                alloc,
+                DeclarationPart::Decl(Decl {
+                    span: pragma.span,
+                    form: DeclForm::Pragma(pragma),
+                }),
+            )
         }
         // Decl = use Id Ids ;
         DeclarationRule::DeclUse => {
@@ -99,44 +107,52 @@ pub fn apply_declaration_rule(
             let mut names = parts.names(alloc);
             let end = parts.place();
             names.put_first(name)?;
-            parts.put_first(Part::Declaration(DeclarationPart::Decl(Decl {
-                span: joined(start, end),
-                form: DeclForm::Use(names.into_items()),
-            })))?;
-            Ok(())
+            parts.put_declaration(
+                alloc,
+                DeclarationPart::Decl(Decl {
+                    span: joined(start, end),
+                    form: DeclForm::Use(names.into_items()),
+                }),
+            )
         }
         // Obj = SubInd Init
         DeclarationRule::Variable => {
             let subtype = parts.sub_ind(alloc);
             let value = parts.optional_expr();
-            parts.put_first(Part::Declaration(DeclarationPart::Object(Object {
-                constant: false,
-                subtype: Some(subtype),
-                value,
-            })))?;
-            Ok(())
+            parts.put_declaration(
+                alloc,
+                DeclarationPart::Object(Object {
+                    constant: false,
+                    subtype: Some(subtype),
+                    value,
+                }),
+            )
         }
         // Const = := Expr
         DeclarationRule::NamedNumber => {
             parts.skip();
             let value = parts.expr();
-            parts.put_first(Part::Declaration(DeclarationPart::Object(Object {
-                constant: true,
-                subtype: None,
-                value: Some(value),
-            })))?;
-            Ok(())
+            parts.put_declaration(
+                alloc,
+                DeclarationPart::Object(Object {
+                    constant: true,
+                    subtype: None,
+                    value: Some(value),
+                }),
+            )
         }
         // Const = SubInd Init
         DeclarationRule::Constant => {
             let subtype = parts.sub_ind(alloc);
             let value = parts.optional_expr();
-            parts.put_first(Part::Declaration(DeclarationPart::Object(Object {
-                constant: true,
-                subtype: Some(subtype),
-                value,
-            })))?;
-            Ok(())
+            parts.put_declaration(
+                alloc,
+                DeclarationPart::Object(Object {
+                    constant: true,
+                    subtype: Some(subtype),
+                    value,
+                }),
+            )
         }
     }
 }

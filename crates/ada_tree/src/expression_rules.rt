@@ -6,7 +6,7 @@ ghost use Rattle.ada_tree.specs.Expressions.{expression_rule};
 use crate::chain::Chain;
 use crate::operations::{Operation, grouped, unary};
 use crate::operators::{logic_operator, operator_of, short_operator_of};
-use crate::part::{ExpressionPart, LogicTail, Part, RelationTail};
+use crate::part::{ExpressionPart, LogicTail, RelationTail};
 use crate::parts::Parts;
 use crate::relations::related;
 use crate::rules::ExpressionRule;
@@ -26,8 +26,7 @@ pub fn apply_expression_rule(
         ExpressionRule::Grouped => {
             let first = parts.expr();
             let more = parts.operations(alloc);
-            parts.put_first(Part::Expression(ExpressionPart::Expr(grouped(alloc, first, more)?)))?;
-            Ok(())
+            parts.put_expression(alloc, ExpressionPart::Expr(grouped(alloc, first, more)?))
         }
         // Logic = and AndRest | Logic = or OrRest
         ExpressionRule::Logic => {
@@ -43,31 +42,34 @@ pub fn apply_expression_rule(
                 operator: logic_operator(short, token.kind),
                 operand,
             })?;
-            parts.put_first(Part::Expression(ExpressionPart::Operations(more)))?;
-            Ok(())
+            parts.put_expression(alloc, ExpressionPart::Operations(more))
         }
         // AndRest = then Rel ThenMore | OrRest = else Rel ElseMore
         ExpressionRule::LogicShort => {
             parts.skip();
             let operand = parts.expr();
             let more = parts.operations(alloc);
-            parts.put_first(Part::Expression(ExpressionPart::LogicTail(LogicTail {
-                short: true,
-                operand,
-                more,
-            })))?;
-            Ok(())
+            parts.put_expression(
+                alloc,
+                ExpressionPart::LogicTail(LogicTail {
+                    short: true,
+                    operand,
+                    more,
+                }),
+            )
         }
         // AndRest = Rel AndMore | OrRest = Rel OrMore
         ExpressionRule::LogicPlain => {
             let operand = parts.expr();
             let more = parts.operations(alloc);
-            parts.put_first(Part::Expression(ExpressionPart::LogicTail(LogicTail {
-                short: false,
-                operand,
-                more,
-            })))?;
-            Ok(())
+            parts.put_expression(
+                alloc,
+                ExpressionPart::LogicTail(LogicTail {
+                    short: false,
+                    operand,
+                    more,
+                }),
+            )
         }
         // AddMore = + Term AddMore, and the like
         ExpressionRule::Operations => {
@@ -79,8 +81,7 @@ pub fn apply_expression_rule(
                 operator: operator_of(token.kind),
                 operand,
             })?;
-            parts.put_first(Part::Expression(ExpressionPart::Operations(more)))?;
-            Ok(())
+            parts.put_expression(alloc, ExpressionPart::Operations(more))
         }
         // ThenMore = and then Rel ThenMore | ElseMore = or else Rel ElseMore
         ExpressionRule::ShortOperations => {
@@ -93,13 +94,11 @@ pub fn apply_expression_rule(
                 operator: short_operator_of(token.kind),
                 operand,
             })?;
-            parts.put_first(Part::Expression(ExpressionPart::Operations(more)))?;
-            Ok(())
+            parts.put_expression(alloc, ExpressionPart::Operations(more))
         }
         // AddMore =, and the like
         ExpressionRule::NoOperations => {
-            parts.put_first(Part::Expression(ExpressionPart::Operations(Chain::new(alloc))))?;
-            Ok(())
+            parts.put_expression(alloc, ExpressionPart::Operations(Chain::new(alloc)))
         }
         // Pow = ** Primary
         ExpressionRule::Power => {
@@ -111,52 +110,49 @@ pub fn apply_expression_rule(
                 operator: operator_of(token.kind),
                 operand,
             })?;
-            parts.put_first(Part::Expression(ExpressionPart::Operations(more)))?;
-            Ok(())
+            parts.put_expression(alloc, ExpressionPart::Operations(more))
         }
         // Rel = Simple RelTail
         ExpressionRule::Relation => {
             let first = parts.expr();
             let tail = parts.relation_tail();
-            parts.put_first(Part::Expression(ExpressionPart::Expr(related(alloc, first, tail)?)))?;
-            Ok(())
+            parts.put_expression(alloc, ExpressionPart::Expr(related(alloc, first, tail)?))
         }
         // RelTail = RelOp Simple
         ExpressionRule::Compare => {
             let token = parts.token();
             let operand = parts.expr();
-            parts.put_first(Part::Expression(ExpressionPart::RelationTail(RelationTail::Compare(
-                Operation {
+            parts.put_expression(
+                alloc,
+                ExpressionPart::RelationTail(RelationTail::Compare(Operation {
                     place: token.span,
                     operator: operator_of(token.kind),
                     operand,
-                },
-            ))))?;
-            Ok(())
+                })),
+            )
         }
         // RelTail = in Range
         ExpressionRule::In => {
             let place = parts.place();
             let range = parts.range();
-            parts.put_first(Part::Expression(ExpressionPart::RelationTail(RelationTail::Member(
-                place, false, range,
-            ))))?;
-            Ok(())
+            parts.put_expression(
+                alloc,
+                ExpressionPart::RelationTail(RelationTail::Member(place, false, range)),
+            )
         }
         // RelTail = not in Range
         ExpressionRule::NotIn => {
             let place = parts.place();
             parts.skip();
             let range = parts.range();
-            parts.put_first(Part::Expression(ExpressionPart::RelationTail(RelationTail::Member(
-                place, true, range,
-            ))))?;
-            Ok(())
+            parts.put_expression(
+                alloc,
+                ExpressionPart::RelationTail(RelationTail::Member(place, true, range)),
+            )
         }
         // RelTail =
         ExpressionRule::NoRelation => {
-            parts.put_first(Part::Expression(ExpressionPart::RelationTail(RelationTail::Nothing)))?;
-            Ok(())
+            parts.put_expression(alloc, ExpressionPart::RelationTail(RelationTail::Nothing))
         }
         // Simple = + Term AddMore | Simple = - Term AddMore
         ExpressionRule::Signed => {
@@ -164,15 +160,13 @@ pub fn apply_expression_rule(
             let operand = parts.expr();
             let more = parts.operations(alloc);
             let first = unary(alloc, token, operand)?;
-            parts.put_first(Part::Expression(ExpressionPart::Expr(grouped(alloc, first, more)?)))?;
-            Ok(())
+            parts.put_expression(alloc, ExpressionPart::Expr(grouped(alloc, first, more)?))
         }
         // Factor = abs Primary | Factor = not Primary
         ExpressionRule::Prefixed => {
             let token = parts.token();
             let operand = parts.expr();
-            parts.put_first(Part::Expression(ExpressionPart::Expr(unary(alloc, token, operand)?)))?;
-            Ok(())
+            parts.put_expression(alloc, ExpressionPart::Expr(unary(alloc, token, operand)?))
         }
     }
 }

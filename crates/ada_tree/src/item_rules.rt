@@ -7,7 +7,7 @@ use crate::chain::Chain;
 use crate::ends::{expr_end, item_end};
 use crate::operations::joined;
 use crate::operators::quantifier_of;
-use crate::part::{ArgTail, Edged, ItemPart, Part};
+use crate::part::{ArgTail, Edged, ItemPart};
 use crate::parts::Parts;
 use crate::relations::{argument, plain};
 use crate::rules::ItemRule;
@@ -25,56 +25,41 @@ pub fn apply_item_rule(alloc: Global, rule: ItemRule, parts: &mut Parts) -> Resu
             parts.skip();
             let args = parts.args(alloc);
             parts.skip();
-            parts.put_first(Part::Item(ItemPart::Args(args)))?;
-            Ok(())
+            parts.put_item(alloc, ItemPart::Args(args))
         }
         // PragArg = | ArgMore =
-        ItemRule::NoArgs => {
-            parts.put_first(Part::Item(ItemPart::Args(Chain::new(alloc))))?;
-            Ok(())
-        }
+        ItemRule::NoArgs => { parts.put_item(alloc, ItemPart::Args(Chain::new(alloc))) }
         // Init = := Expr, and the like
         ItemRule::SomeExprAfter => {
             parts.skip();
             let expr = parts.expr();
-            parts.put_first(Part::Item(ItemPart::OptionalExpr(Some(expr))))?;
-            Ok(())
+            parts.put_item(alloc, ItemPart::OptionalExpr(Some(expr)))
         }
         // RetVal = Expr
         ItemRule::SomeExpr => {
             let expr = parts.expr();
-            parts.put_first(Part::Item(ItemPart::OptionalExpr(Some(expr))))?;
-            Ok(())
+            parts.put_item(alloc, ItemPart::OptionalExpr(Some(expr)))
         }
         // Init =, and the like
-        ItemRule::NoExpr => {
-            parts.put_first(Part::Item(ItemPart::OptionalExpr(None)))?;
-            Ok(())
-        }
+        ItemRule::NoExpr => { parts.put_item(alloc, ItemPart::OptionalExpr(None)) }
         // AspVal = => Item | ArgVal = => Item
         ItemRule::SomeItem => {
             parts.skip();
             let item = parts.item();
-            parts.put_first(Part::Item(ItemPart::OptionalItem(Some(item))))?;
-            Ok(())
+            parts.put_item(alloc, ItemPart::OptionalItem(Some(item)))
         }
         // AspVal = | ArgVal =
-        ItemRule::NoItem => {
-            parts.put_first(Part::Item(ItemPart::OptionalItem(None)))?;
-            Ok(())
-        }
+        ItemRule::NoItem => { parts.put_item(alloc, ItemPart::OptionalItem(None)) }
         // Range = Simple RgTail
         ItemRule::Range => {
             let low = parts.expr();
             let high = parts.optional_expr();
-            parts.put_first(Part::Item(ItemPart::Range(Range { low, high })))?;
-            Ok(())
+            parts.put_item(alloc, ItemPart::Range(Range { low, high }))
         }
         // Item = Expr
         ItemRule::Plain => {
             let expr = parts.expr();
-            parts.put_first(Part::Item(ItemPart::Item(plain(expr))))?;
-            Ok(())
+            parts.put_item(alloc, ItemPart::Item(plain(expr)))
         }
         // Cond = for AllSome Id in Range => Expr
         ItemRule::Quantified => {
@@ -85,11 +70,18 @@ pub fn apply_item_rule(alloc: Global, rule: ItemRule, parts: &mut Parts) -> Resu
             let range = parts.range();
             parts.skip();
             let predicate = parts.expr();
-            parts.put_first(Part::Item(ItemPart::Item(Item {
-                span: joined(start, predicate.span),
-                form: ItemForm::Quantified(quantifier_of(quantifier.kind), name, range, predicate),
-            })))?;
-            Ok(())
+            parts.put_item(
+                alloc,
+                ItemPart::Item(Item {
+                    span: joined(start, predicate.span),
+                    form: ItemForm::Quantified(
+                        quantifier_of(quantifier.kind),
+                        name,
+                        range,
+                        predicate,
+                    ),
+                }),
+            )
         }
         // Cond = if Expr then Expr IfMore IfElse
         ItemRule::If => {
@@ -101,12 +93,17 @@ pub fn apply_item_rule(alloc: Global, rule: ItemRule, parts: &mut Parts) -> Resu
             let otherwise = parts.optional_expr();
             let end = expr_end(&otherwise, arms.edge.unwrap_or(gives.span));
             let mut value = arms.value;
-            value.put_first(Arm { condition, gives })?;
-            parts.put_first(Part::Item(ItemPart::Item(Item {
-                span: joined(start, end),
-                form: ItemForm::If(value.into_items(), otherwise),
-            })))?;
-            Ok(())
+            if let Err(error) = value.put_first(Arm { condition, gives }) {
+                drop(otherwise);
+                return Err(Starved::from(error));
+            }
+            parts.put_item(
+                alloc,
+                ItemPart::Item(Item {
+                    span: joined(start, end),
+                    form: ItemForm::If(value.into_items(), otherwise),
+                }),
+            )
         }
         // IfMore = elsif Expr then Expr IfMore
         ItemRule::Arms => {
@@ -118,27 +115,30 @@ pub fn apply_item_rule(alloc: Global, rule: ItemRule, parts: &mut Parts) -> Resu
             let end = arms.edge.unwrap_or(gives.span);
             let mut value = arms.value;
             value.put_first(Arm { condition, gives })?;
-            parts.put_first(Part::Item(ItemPart::Arms(Edged {
-                value,
-                edge: Some(end),
-            })))?;
-            Ok(())
+            parts.put_item(
+                alloc,
+                ItemPart::Arms(Edged {
+                    value,
+                    edge: Some(end),
+                }),
+            )
         }
         // IfMore =
         ItemRule::NoArms => {
-            parts.put_first(Part::Item(ItemPart::Arms(Edged {
-                value: Chain::new(alloc),
-                edge: None,
-            })))?;
-            Ok(())
+            parts.put_item(
+                alloc,
+                ItemPart::Arms(Edged {
+                    value: Chain::new(alloc),
+                    edge: None,
+                }),
+            )
         }
         // Args = Arg ArgMore
         ItemRule::Args => {
             let arg = parts.arg();
             let mut args = parts.args(alloc);
             args.put_first(arg)?;
-            parts.put_first(Part::Item(ItemPart::Args(args)))?;
-            Ok(())
+            parts.put_item(alloc, ItemPart::Args(args))
         }
         // ArgMore = , Arg ArgMore
         ItemRule::ArgsAfter => {
@@ -146,54 +146,57 @@ pub fn apply_item_rule(alloc: Global, rule: ItemRule, parts: &mut Parts) -> Resu
             let arg = parts.arg();
             let mut args = parts.args(alloc);
             args.put_first(arg)?;
-            parts.put_first(Part::Item(ItemPart::Args(args)))?;
-            Ok(())
+            parts.put_item(alloc, ItemPart::Args(args))
         }
         // Arg = others => Item
         ItemRule::ArgOthers => {
             let start = parts.place();
             parts.skip();
             let item = parts.item();
-            parts.put_first(Part::Item(ItemPart::Arg(Arg {
-                span: joined(start, item.span),
-                choice: ArgChoice::Others,
-                value: Some(item),
-            })))?;
-            Ok(())
+            parts.put_item(
+                alloc,
+                ItemPart::Arg(Arg {
+                    span: joined(start, item.span),
+                    choice: ArgChoice::Others,
+                    value: Some(item),
+                }),
+            )
         }
         // Arg = Cond ArgVal
         ItemRule::ArgItem => {
             let item = parts.item();
             let value = parts.optional_item();
-            parts.put_first(Part::Item(ItemPart::Arg(Arg {
-                span: joined(item.span, item_end(&value, item.span)),
-                choice: ArgChoice::Item(item),
-                value,
-            })))?;
-            Ok(())
+            parts.put_item(
+                alloc,
+                ItemPart::Arg(Arg {
+                    span: joined(item.span, item_end(&value, item.span)),
+                    choice: ArgChoice::Item(item),
+                    value,
+                }),
+            )
         }
         // Arg = Simple ArgMid
         ItemRule::ArgSimple => {
             let first = parts.expr();
             let tail = parts.arg_tail(alloc);
-            parts.put_first(Part::Item(ItemPart::Arg(argument(alloc, first, tail)?)))?;
-            Ok(())
+            parts.put_item(alloc, ItemPart::Arg(argument(alloc, first, tail)?))
         }
         // ArgMid = .. Simple ArgVal
         ItemRule::ArgUpTo => {
             parts.skip();
             let high = parts.expr();
             let value = parts.optional_item();
-            parts.put_first(Part::Item(ItemPart::ArgTail(ArgTail::UpTo(high, value))))?;
-            Ok(())
+            parts.put_item(alloc, ItemPart::ArgTail(ArgTail::UpTo(high, value)))
         }
         // ArgMid = RelTail Logic ArgVal
         ItemRule::ArgRest => {
             let relation = parts.relation_tail();
             let more = parts.operations(alloc);
             let value = parts.optional_item();
-            parts.put_first(Part::Item(ItemPart::ArgTail(ArgTail::Rest(relation, more, value))))?;
-            Ok(())
+            parts.put_item(
+                alloc,
+                ItemPart::ArgTail(ArgTail::Rest(relation, more, value)),
+            )
         }
     }
 }

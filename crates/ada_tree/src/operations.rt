@@ -50,14 +50,18 @@ pub fn binary(alloc: Global, left: Expr, operation: Operation) -> Result<Expr, S
         operator,
         operand,
     } = operation;
+    let span = joined(left.span, operand.span);
+    let left = match Boxed::new(alloc, left) {
+        Ok(left) => left,
+        Err(error) => {
+            drop(operand);
+            return Err(Starved::from(error));
+        }
+    };
+    let operand = Boxed::new(alloc, operand)?;
     Ok(Expr {
-        span: joined(left.span, operand.span),
-        node: ExprNode::Binary(
-            place,
-            operator,
-            Boxed::new(alloc, left)?,
-            Boxed::new(alloc, operand)?,
-        ),
+        span,
+        node: ExprNode::Binary(place, operator, left, operand),
     })
 }
 

@@ -8,7 +8,7 @@ use ada_syntax::{
     SourceUnit, Stmt, Sub, SubInd, Suffix, TypeDef, Unit,
 };
 use ada_text::{Span, Token};
-use sqlite_items::Items;
+use sqlite_items::{Boxed, Items};
 
 /// What a phrase became that may have no token, with the place of its first or its last token where it has one.
 #[derive(Drop)]
@@ -142,12 +142,12 @@ pub enum ExpressionPart {
 #[derive(Drop)]
 pub enum Part {
     Token(Token),
-    Unit(UnitPart),
-    Declaration(DeclarationPart),
-    Type(TypePart),
-    Subprogram(SubprogramPart),
-    Statement(StatementPart),
-    Choice(ChoicePart),
-    Item(ItemPart),
-    Expression(ExpressionPart),
+    Unit(Boxed<UnitPart>),
+    Declaration(Boxed<DeclarationPart>),
+    Type(Boxed<TypePart>),
+    Subprogram(Boxed<SubprogramPart>),
+    Statement(Boxed<StatementPart>),
+    Choice(Boxed<ChoicePart>),
+    Item(Boxed<ItemPart>),
+    Expression(Boxed<ExpressionPart>),
 }

@@ -1,6 +1,6 @@
 //! Parts of a derivation, the first of which is taken as what it is.
 
-ghost use Rattle.std.specs.Prelude.{◌≡◌};
+ghost use Rattle.std.specs.Prelude.{◌≡◌, ◌∷◌, OnOk};
 ghost use Rattle.ada_tree.specs.Parts.{alternative_of, alternatives_of, arg_of, arg_tail_of, args_of, arms_of, aspect_of, aspects_of, attribute_of, body_of, bounds_of, branches_of, choice_of, choice_part_of, choices_of, component_of, components_of, context_of, decl_of, declaration_part_of, decls_of, end_name_of, expr_of, expression_part_of, first, flag_of, index_form_of, index_of, item_of, item_part_of, logic_tail_of, loop_head_of, mode_of, name_of, names_of, object_of, operations_of, optional_expr_of, optional_item_of, param_of, params_of, place_of, pragma_of, private_of, range_of, relation_tail_of, rest, source_unit_of, statement_part_of, stmt_of, stmts_of, sub_ind_of, sub_of, subprogram_part_of, suffixes_of, token_of, type_def_of, type_part_of, unit_of, unit_part_of};
 
 use crate::chain::Chain;
@@ -20,7 +20,8 @@ use ada_syntax::{
     Unit,
 };
 use ada_text::{Span, Token};
-use sqlite_items::Items;
+use grammar_table::Starved;
+use sqlite_items::{Boxed, Items};
 use std::alloc::Global;
 
 /// Parts in order. Each method takes the first one, as what it is; one that is something else is never met in a derivation.
@@ -30,7 +31,7 @@ impl Chain<Part> {
     pub fn skip(&mut self)
         ensures { self.new ≡ rest self.old }
     {
-        let _part = self.take();
+        drop(self.take());
     }
 
     pub fn take(&mut self) -> Part
@@ -64,12 +65,76 @@ impl Chain<Part> {
         self.token().span
     }
 
+    pub fn put_unit(&mut self, alloc: Global, part: UnitPart) -> Result<(), Starved>
+        ensures { OnOk result (self.new ≡ Part.Unit part ∷ self.old) }
+    {
+        let part = Boxed::new(alloc, part)?;
+        self.put_first(Part::Unit(part))?;
+        Ok(())
+    }
+
+    pub fn put_declaration(&mut self, alloc: Global, part: DeclarationPart) -> Result<(), Starved>
+        ensures { OnOk result (self.new ≡ Part.Declaration part ∷ self.old) }
+    {
+        let part = Boxed::new(alloc, part)?;
+        self.put_first(Part::Declaration(part))?;
+        Ok(())
+    }
+
+    pub fn put_type(&mut self, alloc: Global, part: TypePart) -> Result<(), Starved>
+        ensures { OnOk result (self.new ≡ Part.Type part ∷ self.old) }
+    {
+        let part = Boxed::new(alloc, part)?;
+        self.put_first(Part::Type(part))?;
+        Ok(())
+    }
+
+    pub fn put_subprogram(&mut self, alloc: Global, part: SubprogramPart) -> Result<(), Starved>
+        ensures { OnOk result (self.new ≡ Part.Subprogram part ∷ self.old) }
+    {
+        let part = Boxed::new(alloc, part)?;
+        self.put_first(Part::Subprogram(part))?;
+        Ok(())
+    }
+
+    pub fn put_statement(&mut self, alloc: Global, part: StatementPart) -> Result<(), Starved>
+        ensures { OnOk result (self.new ≡ Part.Statement part ∷ self.old) }
+    {
+        let part = Boxed::new(alloc, part)?;
+        self.put_first(Part::Statement(part))?;
+        Ok(())
+    }
+
+    pub fn put_choice(&mut self, alloc: Global, part: ChoicePart) -> Result<(), Starved>
+        ensures { OnOk result (self.new ≡ Part.Choice part ∷ self.old) }
+    {
+        let part = Boxed::new(alloc, part)?;
+        self.put_first(Part::Choice(part))?;
+        Ok(())
+    }
+
+    pub fn put_item(&mut self, alloc: Global, part: ItemPart) -> Result<(), Starved>
+        ensures { OnOk result (self.new ≡ Part.Item part ∷ self.old) }
+    {
+        let part = Boxed::new(alloc, part)?;
+        self.put_first(Part::Item(part))?;
+        Ok(())
+    }
+
+    pub fn put_expression(&mut self, alloc: Global, part: ExpressionPart) -> Result<(), Starved>
+        ensures { OnOk result (self.new ≡ Part.Expression part ∷ self.old) }
+    {
+        let part = Boxed::new(alloc, part)?;
+        self.put_first(Part::Expression(part))?;
+        Ok(())
+    }
+
     fn take_unit(&mut self) -> UnitPart
         ensures value { result ≡ unit_part_of (first self.old) }
         ensures rest { self.new ≡ rest self.old }
     {
         match self.take() {
-            Part::Unit(part) => part,
+            Part::Unit(part) => part.into_inner(),
             other => {
                 drop(other);
                 UnitPart::EndName(None)
@@ -82,7 +147,7 @@ impl Chain<Part> {
         ensures rest { self.new ≡ rest self.old }
     {
         match self.take() {
-            Part::Declaration(part) => part,
+            Part::Declaration(part) => part.into_inner(),
             other => {
                 drop(other);
                 DeclarationPart::Object(Object {
@@ -99,7 +164,7 @@ impl Chain<Part> {
         ensures rest { self.new ≡ rest self.old }
     {
         match self.take() {
-            Part::Type(part) => part,
+            Part::Type(part) => part.into_inner(),
             other => {
                 drop(other);
                 TypePart::Bounds(None)
@@ -112,7 +177,7 @@ impl Chain<Part> {
         ensures rest { self.new ≡ rest self.old }
     {
         match self.take() {
-            Part::Subprogram(part) => part,
+            Part::Subprogram(part) => part.into_inner(),
             other => {
                 drop(other);
                 SubprogramPart::Mode(Mode::Unstated)
@@ -125,7 +190,7 @@ impl Chain<Part> {
         ensures rest { self.new ≡ rest self.old }
     {
         match self.take() {
-            Part::Statement(part) => part,
+            Part::Statement(part) => part.into_inner(),
             other => {
                 drop(other);
                 StatementPart::Stmt(Stmt {
@@ -141,7 +206,7 @@ impl Chain<Part> {
         ensures rest { self.new ≡ rest self.old }
     {
         match self.take() {
-            Part::Choice(part) => part,
+            Part::Choice(part) => part.into_inner(),
             other => {
                 drop(other);
                 ChoicePart::Flag(false)
@@ -154,7 +219,7 @@ impl Chain<Part> {
         ensures rest { self.new ≡ rest self.old }
     {
         match self.take() {
-            Part::Item(part) => part,
+            Part::Item(part) => part.into_inner(),
             other => {
                 drop(other);
                 ItemPart::OptionalExpr(None)
@@ -167,7 +232,7 @@ impl Chain<Part> {
         ensures rest { self.new ≡ rest self.old }
     {
         match self.take() {
-            Part::Expression(part) => part,
+            Part::Expression(part) => part.into_inner(),
             other => {
                 drop(other);
                 ExpressionPart::RelationTail(RelationTail::Nothing)

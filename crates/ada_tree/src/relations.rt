@@ -1,10 +1,12 @@
 //! Expressions from their first part and what follows it.
 
 ghost use Rattle.std.specs.Prelude.{◌≡◌, IfOk};
+ghost use Rattle.ada_tree.specs.Operations.{grouped};
 ghost use Rattle.ada_tree.specs.Relations.{argument, named_action, plain, range_end, related};
 
+use crate::chain::Chain;
 use crate::ends::{expr_end, item_end};
-use crate::operations::{binary, grouped, joined};
+use crate::operations::{Operation, binary, grouped, joined};
 use crate::part::{ArgTail, RelationTail};
 use ada_syntax::{Action, Arg, ArgChoice, Expr, ExprNode, Item, ItemForm, Name, Range, Stmt};
 use ada_text::Span;
@@ -30,8 +32,14 @@ fn member(
     ensures { IfOk result (λ e. e ≡ related first (RelationTail.Member place negated range)) }
 {
     let span = joined(first.span, range_end(&range));
+    let range = match Boxed::new(alloc, range) {
+        Ok(range) => range,
+        Err(error) => {
+            drop(first);
+            return Err(Starved::from(error));
+        }
+    };
     let first = Boxed::new(alloc, first)?;
-    let range = Boxed::new(alloc, range)?;
     Ok(Expr {
         span,
         node: ExprNode::Member(place, negated, first, range),
@@ -59,6 +67,19 @@ pub fn plain(expr: Expr) -> Item<Expr>
     }
 }
 
+/// A relation with the operators after it.
+fn grouped_relation(
+    alloc: Global,
+    first: Expr,
+    tail: RelationTail,
+    more: Chain<Operation>,
+) -> Result<Expr, Starved>
+    ensures { IfOk result (λ e. e ≡ grouped (related first tail) more) }
+{
+    let relation = related(alloc, first, tail)?;
+    grouped(alloc, relation, more)
+}
+
 /// An argument that begins with a simple expression.
 pub fn argument(alloc: Global, first: Expr, tail: ArgTail) -> Result<Arg<Expr>, Starved>
     ensures { IfOk result (λ a. a ≡ argument first tail) }
@@ -70,13 +91,17 @@ pub fn argument(alloc: Global, first: Expr, tail: ArgTail) -> Result<Arg<Expr>, 
             value,
         }),
         ArgTail::Rest(relation, more, value) => {
-            let relation = related(alloc, first, relation)?;
-            let expr = grouped(alloc, relation, more)?;
-            Ok(Arg {
-                span: joined(expr.span, item_end(&value, expr.span)),
-                choice: ArgChoice::Item(plain(expr)),
-                value,
-            })
+            match grouped_relation(alloc, first, relation, more) {
+                Ok(expr) => Ok(Arg {
+                    span: joined(expr.span, item_end(&value, expr.span)),
+                    choice: ArgChoice::Item(plain(expr)),
+                    value,
+                }),
+                Err(starved) => {
+                    drop(value);
+                    Err(starved)
+                }
+            }
         }
     }
 }

@@ -5,7 +5,7 @@ ghost use Rattle.ada_tree.specs.Statements.{statement_rule};
 
 use crate::chain::Chain;
 use crate::operations::joined;
-use crate::part::{ChoicePart, Edged, Part, StatementPart};
+use crate::part::{ChoicePart, Edged, StatementPart};
 use crate::parts::Parts;
 use crate::relations::named_action;
 use crate::rules::StatementRule;
@@ -27,34 +27,36 @@ pub fn apply_statement_rule(
             let stmt = parts.stmt();
             let mut stmts = parts.stmts(alloc);
             stmts.put_first(stmt)?;
-            parts.put_first(Part::Statement(StatementPart::Stmts(stmts)))?;
-            Ok(())
+            parts.put_statement(alloc, StatementPart::Stmts(stmts))
         }
         // StMore = | Else =
         StatementRule::NoStmts => {
-            parts.put_first(Part::Statement(StatementPart::Stmts(Chain::new(alloc))))?;
-            Ok(())
+            parts.put_statement(alloc, StatementPart::Stmts(Chain::new(alloc)))
         }
         // Stmt = null ;
         StatementRule::Null => {
             let start = parts.place();
             let end = parts.place();
-            parts.put_first(Part::Statement(StatementPart::Stmt(Stmt {
-                span: joined(start, end),
-                action: Action::Null,
-            })))?;
-            Ok(())
+            parts.put_statement(
+                alloc,
+                StatementPart::Stmt(Stmt {
+                    span: joined(start, end),
+                    action: Action::Null,
+                }),
+            )
         }
         // Stmt = Name Act ;
         StatementRule::Name => {
             let name = parts.name(alloc);
             let value = parts.optional_expr();
             let end = parts.place();
-            parts.put_first(Part::Statement(StatementPart::Stmt(Stmt {
-                span: joined(name.span, end),
-                action: named_action(name, value),
-            })))?;
-            Ok(())
+            parts.put_statement(
+                alloc,
+                StatementPart::Stmt(Stmt {
+                    span: joined(name.span, end),
+                    action: named_action(name, value),
+                }),
+            )
         }
         // Stmt = if Expr then Stmts Elsifs Else end if ;
         StatementRule::If => {
@@ -71,11 +73,13 @@ pub fn apply_statement_rule(
                 condition,
                 body: stmts.into_items(),
             })?;
-            parts.put_first(Part::Statement(StatementPart::Stmt(Stmt {
-                span: joined(start, end),
-                action: Action::If(branches.into_items(), otherwise.into_items()),
-            })))?;
-            Ok(())
+            parts.put_statement(
+                alloc,
+                StatementPart::Stmt(Stmt {
+                    span: joined(start, end),
+                    action: Action::If(branches.into_items(), otherwise.into_items()),
+                }),
+            )
         }
         // Stmt = case Expr is When Whens end case ;
         StatementRule::Case => {
@@ -88,11 +92,13 @@ pub fn apply_statement_rule(
             parts.skip();
             let end = parts.place();
             alternatives.put_first(first)?;
-            parts.put_first(Part::Statement(StatementPart::Stmt(Stmt {
-                span: joined(start, end),
-                action: Action::Case(selector, alternatives.into_items()),
-            })))?;
-            Ok(())
+            parts.put_statement(
+                alloc,
+                StatementPart::Stmt(Stmt {
+                    span: joined(start, end),
+                    action: Action::Case(selector, alternatives.into_items()),
+                }),
+            )
         }
         // Stmt = Head loop Stmts end loop ;
         StatementRule::Loop => {
@@ -102,42 +108,50 @@ pub fn apply_statement_rule(
             parts.skip();
             parts.skip();
             let end = parts.place();
-            parts.put_first(Part::Statement(StatementPart::Stmt(Stmt {
-                span: joined(head.edge.unwrap_or(start), end),
-                action: Action::Loop(head.value, stmts.into_items()),
-            })))?;
-            Ok(())
+            parts.put_statement(
+                alloc,
+                StatementPart::Stmt(Stmt {
+                    span: joined(head.edge.unwrap_or(start), end),
+                    action: Action::Loop(head.value, stmts.into_items()),
+                }),
+            )
         }
         // Stmt = exit ExWhen ;
         StatementRule::Exit => {
             let start = parts.place();
             let condition = parts.optional_expr();
             let end = parts.place();
-            parts.put_first(Part::Statement(StatementPart::Stmt(Stmt {
-                span: joined(start, end),
-                action: Action::Exit(condition),
-            })))?;
-            Ok(())
+            parts.put_statement(
+                alloc,
+                StatementPart::Stmt(Stmt {
+                    span: joined(start, end),
+                    action: Action::Exit(condition),
+                }),
+            )
         }
         // Stmt = return RetVal ;
         StatementRule::Return => {
             let start = parts.place();
             let value = parts.optional_expr();
             let end = parts.place();
-            parts.put_first(Part::Statement(StatementPart::Stmt(Stmt {
-                span: joined(start, end),
-                action: Action::Return(value),
-            })))?;
-            Ok(())
+            parts.put_statement(
+                alloc,
+                StatementPart::Stmt(Stmt {
+                    span: joined(start, end),
+                    action: Action::Return(value),
+                }),
+            )
         }
         // Stmt = Pragma
         StatementRule::StmtPragma => {
             let pragma = parts.pragma(alloc);
-            parts.put_first(Part::Statement(StatementPart::Stmt(Stmt {
-                span: pragma.span,
-                action: Action::Pragma(pragma),
-            })))?;
-            Ok(())
+            parts.put_statement(
+                alloc,
+                StatementPart::Stmt(Stmt {
+                    span: pragma.span,
+                    action: Action::Pragma(pragma),
+                }),
+            )
         }
         // Elsifs = elsif Expr then Stmts Elsifs
         StatementRule::Branches => {
@@ -150,13 +164,11 @@ pub fn apply_statement_rule(
                 condition,
                 body: stmts.into_items(),
             })?;
-            parts.put_first(Part::Statement(StatementPart::Branches(branches)))?;
-            Ok(())
+            parts.put_statement(alloc, StatementPart::Branches(branches))
         }
         // Elsifs =
         StatementRule::NoBranches => {
-            parts.put_first(Part::Statement(StatementPart::Branches(Chain::new(alloc))))?;
-            Ok(())
+            parts.put_statement(alloc, StatementPart::Branches(Chain::new(alloc)))
         }
         // When = when Choice Choices => Stmts
         StatementRule::Alternative => {
@@ -166,36 +178,34 @@ pub fn apply_statement_rule(
             parts.skip();
             let stmts = parts.stmts(alloc);
             choices.put_first(choice)?;
-            parts.put_first(Part::Statement(StatementPart::Alternative(Alternative {
-                choices: choices.into_items(),
-                body: stmts.into_items(),
-            })))?;
-            Ok(())
+            parts.put_statement(
+                alloc,
+                StatementPart::Alternative(Alternative {
+                    choices: choices.into_items(),
+                    body: stmts.into_items(),
+                }),
+            )
         }
         // Whens = When Whens
         StatementRule::Alternatives => {
             let alternative = parts.alternative(alloc);
             let mut alternatives = parts.alternatives(alloc);
             alternatives.put_first(alternative)?;
-            parts.put_first(Part::Statement(StatementPart::Alternatives(alternatives)))?;
-            Ok(())
+            parts.put_statement(alloc, StatementPart::Alternatives(alternatives))
         }
         // Whens =
         StatementRule::NoAlternatives => {
-            parts.put_first(Part::Statement(StatementPart::Alternatives(Chain::new(alloc))))?;
-            Ok(())
+            parts.put_statement(alloc, StatementPart::Alternatives(Chain::new(alloc)))
         }
         // Choice = others
         StatementRule::ChoiceOthers => {
             parts.skip();
-            parts.put_first(Part::Choice(ChoicePart::Choice(Choice::Others)))?;
-            Ok(())
+            parts.put_choice(alloc, ChoicePart::Choice(Choice::Others))
         }
         // Choice = Range
         StatementRule::ChoiceRange => {
             let range = parts.range();
-            parts.put_first(Part::Choice(ChoicePart::Choice(Choice::Range(range))))?;
-            Ok(())
+            parts.put_choice(alloc, ChoicePart::Choice(Choice::Range(range)))
         }
         // Choices = "|" Choice Choices
         StatementRule::Choices => {
@@ -203,23 +213,23 @@ pub fn apply_statement_rule(
             let choice = parts.choice();
             let mut choices = parts.choices(alloc);
             choices.put_first(choice)?;
-            parts.put_first(Part::Choice(ChoicePart::Choices(choices)))?;
-            Ok(())
+            parts.put_choice(alloc, ChoicePart::Choices(choices))
         }
         // Choices =
         StatementRule::NoChoices => {
-            parts.put_first(Part::Choice(ChoicePart::Choices(Chain::new(alloc))))?;
-            Ok(())
+            parts.put_choice(alloc, ChoicePart::Choices(Chain::new(alloc)))
         }
         // Head = while Expr
         StatementRule::While => {
             let start = parts.place();
             let condition = parts.expr();
-            parts.put_first(Part::Choice(ChoicePart::LoopHead(Edged {
-                value: LoopHead::While(condition),
-                edge: Some(start),
-            })))?;
-            Ok(())
+            parts.put_choice(
+                alloc,
+                ChoicePart::LoopHead(Edged {
+                    value: LoopHead::While(condition),
+                    edge: Some(start),
+                }),
+            )
         }
         // Head = for Id in Rev Range
         StatementRule::For => {
@@ -228,30 +238,30 @@ pub fn apply_statement_rule(
             parts.skip();
             let reverse = parts.flag();
             let range = parts.range();
-            parts.put_first(Part::Choice(ChoicePart::LoopHead(Edged {
-                value: LoopHead::For(name, reverse, range),
-                edge: Some(start),
-            })))?;
-            Ok(())
+            parts.put_choice(
+                alloc,
+                ChoicePart::LoopHead(Edged {
+                    value: LoopHead::For(name, reverse, range),
+                    edge: Some(start),
+                }),
+            )
         }
         // Head =
         StatementRule::Forever => {
-            parts.put_first(Part::Choice(ChoicePart::LoopHead(Edged {
-                value: LoopHead::Forever,
-                edge: None,
-            })))?;
-            Ok(())
+            parts.put_choice(
+                alloc,
+                ChoicePart::LoopHead(Edged {
+                    value: LoopHead::Forever,
+                    edge: None,
+                }),
+            )
         }
         // Rev = reverse
         StatementRule::Reverse => {
             parts.skip();
-            parts.put_first(Part::Choice(ChoicePart::Flag(true)))?;
-            Ok(())
+            parts.put_choice(alloc, ChoicePart::Flag(true))
         }
         // Rev =
-        StatementRule::Forward => {
-            parts.put_first(Part::Choice(ChoicePart::Flag(false)))?;
-            Ok(())
-        }
+        StatementRule::Forward => { parts.put_choice(alloc, ChoicePart::Flag(false)) }
     }
 }

@@ -6,7 +6,7 @@ ghost use Rattle.ada_tree.specs.Subprograms.{subprogram_rule};
 use crate::chain::Chain;
 use crate::ends::item_end;
 use crate::operations::joined;
-use crate::part::{DeclarationPart, Ended, Part, SubprogramPart};
+use crate::part::{DeclarationPart, Ended, SubprogramPart};
 use crate::parts::Parts;
 use crate::rules::SubprogramRule;
 use ada_syntax::{Aspect, Body, Mode, Param, Pragma, Sub};
@@ -29,15 +29,17 @@ pub fn apply_subprogram_rule(
             let params = parts.params(alloc);
             let aspects = parts.aspects(alloc);
             let body = parts.body();
-            parts.put_first(Part::Declaration(DeclarationPart::Sub(Sub {
-                span: joined(start, body.end),
-                name,
-                params: params.into_items(),
-                result: None,
-                aspects: aspects.into_items(),
-                body: body.value,
-            })))?;
-            Ok(())
+            parts.put_declaration(
+                alloc,
+                DeclarationPart::Sub(Sub {
+                    span: joined(start, body.end),
+                    name,
+                    params: params.into_items(),
+                    result: None,
+                    aspects: aspects.into_items(),
+                    body: body.value,
+                }),
+            )
         }
         // Sub = function Id Params return Name Asp Body
         SubprogramRule::Function => {
@@ -48,15 +50,17 @@ pub fn apply_subprogram_rule(
             let mark = parts.name(alloc);
             let aspects = parts.aspects(alloc);
             let body = parts.body();
-            parts.put_first(Part::Declaration(DeclarationPart::Sub(Sub {
-                span: joined(start, body.end),
-                name,
-                params: params.into_items(),
-                result: Some(mark),
-                aspects: aspects.into_items(),
-                body: body.value,
-            })))?;
-            Ok(())
+            parts.put_declaration(
+                alloc,
+                DeclarationPart::Sub(Sub {
+                    span: joined(start, body.end),
+                    name,
+                    params: params.into_items(),
+                    result: Some(mark),
+                    aspects: aspects.into_items(),
+                    body: body.value,
+                }),
+            )
         }
         // Params = ( Param ParMore )
         SubprogramRule::ParamGroup => {
@@ -65,13 +69,11 @@ pub fn apply_subprogram_rule(
             let mut params = parts.params(alloc);
             parts.skip();
             params.put_first(param)?;
-            parts.put_first(Part::Subprogram(SubprogramPart::Params(params)))?;
-            Ok(())
+            parts.put_subprogram(alloc, SubprogramPart::Params(params))
         }
         // Params = | ParMore =
         SubprogramRule::NoParams => {
-            parts.put_first(Part::Subprogram(SubprogramPart::Params(Chain::new(alloc))))?;
-            Ok(())
+            parts.put_subprogram(alloc, SubprogramPart::Params(Chain::new(alloc)))
         }
         // ParMore = ; Param ParMore
         SubprogramRule::Params => {
@@ -79,8 +81,7 @@ pub fn apply_subprogram_rule(
             let param = parts.param(alloc);
             let mut params = parts.params(alloc);
             params.put_first(param)?;
-            parts.put_first(Part::Subprogram(SubprogramPart::Params(params)))?;
-            Ok(())
+            parts.put_subprogram(alloc, SubprogramPart::Params(params))
         }
         // Param = Id Ids : Mode SubInd
         SubprogramRule::Param => {
@@ -90,41 +91,36 @@ pub fn apply_subprogram_rule(
             let mode = parts.mode();
             let subtype = parts.sub_ind(alloc);
             names.put_first(name)?;
-            parts.put_first(Part::Subprogram(SubprogramPart::Param(Param {
-                span: joined(name, subtype.span),
-                names: names.into_items(),
-                mode,
-                subtype,
-            })))?;
-            Ok(())
+            parts.put_subprogram(
+                alloc,
+                SubprogramPart::Param(Param {
+                    span: joined(name, subtype.span),
+                    names: names.into_items(),
+                    mode,
+                    subtype,
+                }),
+            )
         }
         // Mode = out
         SubprogramRule::ModeOut => {
             parts.skip();
-            parts.put_first(Part::Subprogram(SubprogramPart::Mode(Mode::Out)))?;
-            Ok(())
+            parts.put_subprogram(alloc, SubprogramPart::Mode(Mode::Out))
         }
         // Mode =
         SubprogramRule::ModeUnstated => {
-            parts.put_first(Part::Subprogram(SubprogramPart::Mode(Mode::Unstated)))?;
-            Ok(())
+            parts.put_subprogram(alloc, SubprogramPart::Mode(Mode::Unstated))
         }
         // InOut = out
         SubprogramRule::ModeInOut => {
             parts.skip();
-            parts.put_first(Part::Subprogram(SubprogramPart::Mode(Mode::InOut)))?;
-            Ok(())
+            parts.put_subprogram(alloc, SubprogramPart::Mode(Mode::InOut))
         }
         // InOut =
-        SubprogramRule::ModeIn => {
-            parts.put_first(Part::Subprogram(SubprogramPart::Mode(Mode::In)))?;
-            Ok(())
-        }
+        SubprogramRule::ModeIn => { parts.put_subprogram(alloc, SubprogramPart::Mode(Mode::In)) }
         // Body = ;
         SubprogramRule::NoBody => {
             let end = parts.place();
-            parts.put_first(Part::Declaration(DeclarationPart::Body(Ended { value: None, end })))?;
-            Ok(())
+            parts.put_declaration(alloc, DeclarationPart::Body(Ended { value: None, end }))
         }
         // Body = is Decls begin Stmts end EndId ;
         SubprogramRule::SomeBody => {
@@ -135,15 +131,17 @@ pub fn apply_subprogram_rule(
             parts.skip();
             let end_name = parts.end_name();
             let end = parts.place();
-            parts.put_first(Part::Declaration(DeclarationPart::Body(Ended {
-                value: Some(Body {
-                    declarations: decls.into_items(),
-                    statements: stmts.into_items(),
-                    end_name,
+            parts.put_declaration(
+                alloc,
+                DeclarationPart::Body(Ended {
+                    value: Some(Body {
+                        declarations: decls.into_items(),
+                        statements: stmts.into_items(),
+                        end_name,
+                    }),
+                    end,
                 }),
-                end,
-            })))?;
-            Ok(())
+            )
         }
         // Asp = with Aspect AspMore | AspMore = , Aspect AspMore
         SubprogramRule::Aspects => {
@@ -151,24 +149,24 @@ pub fn apply_subprogram_rule(
             let aspect = parts.aspect();
             let mut aspects = parts.aspects(alloc);
             aspects.put_first(aspect)?;
-            parts.put_first(Part::Subprogram(SubprogramPart::Aspects(aspects)))?;
-            Ok(())
+            parts.put_subprogram(alloc, SubprogramPart::Aspects(aspects))
         }
         // Asp = | AspMore =
         SubprogramRule::NoAspects => {
-            parts.put_first(Part::Subprogram(SubprogramPart::Aspects(Chain::new(alloc))))?;
-            Ok(())
+            parts.put_subprogram(alloc, SubprogramPart::Aspects(Chain::new(alloc)))
         }
         // Aspect = Id AspVal
         SubprogramRule::Aspect => {
             let name = parts.place();
             let value = parts.optional_item();
-            parts.put_first(Part::Subprogram(SubprogramPart::Aspect(Aspect {
-                span: joined(name, item_end(&value, name)),
-                name,
-                value,
-            })))?;
-            Ok(())
+            parts.put_subprogram(
+                alloc,
+                SubprogramPart::Aspect(Aspect {
+                    span: joined(name, item_end(&value, name)),
+                    name,
+                    value,
+                }),
+            )
         }
         // Pragma = pragma Id PragArg ;
         SubprogramRule::Pragma => {
@@ -176,12 +174,14 @@ pub fn apply_subprogram_rule(
             let name = parts.place();
             let args = parts.args(alloc);
             let end = parts.place();
-            parts.put_first(Part::Declaration(DeclarationPart::Pragma(Pragma {
-                span: joined(start, end),
-                name,
-                args: args.into_items(),
-            })))?;
-            Ok(())
+            parts.put_declaration(
+                alloc,
+                DeclarationPart::Pragma(Pragma {
+                    span: joined(start, end),
+                    name,
+                    args: args.into_items(),
+                }),
+            )
         }
     }
 }

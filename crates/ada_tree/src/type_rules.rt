@@ -6,7 +6,7 @@ ghost use Rattle.ada_tree.specs.Types.{type_rule};
 use crate::chain::Chain;
 use crate::ends::bounds_end;
 use crate::operations::joined;
-use crate::part::{Part, TypePart};
+use crate::part::TypePart;
 use crate::parts::Parts;
 use crate::rules::TypeRule;
 use ada_syntax::{Bounds, Component, Index, IndexForm, SubInd, TypeDef, TypeForm};
@@ -24,21 +24,25 @@ pub fn apply_type_rule(alloc: Global, rule: TypeRule, parts: &mut Parts) -> Resu
             let low = parts.expr();
             parts.skip();
             let high = parts.expr();
-            parts.put_first(Part::Type(TypePart::TypeDef(TypeDef {
-                span: joined(start, high.span),
-                form: TypeForm::Range(Bounds { low, high }),
-            })))?;
-            Ok(())
+            parts.put_type(
+                alloc,
+                TypePart::TypeDef(TypeDef {
+                    span: joined(start, high.span),
+                    form: TypeForm::Range(Bounds { low, high }),
+                }),
+            )
         }
         // TypeDef = mod Simple
         TypeRule::Modular => {
             let start = parts.place();
             let modulus = parts.expr();
-            parts.put_first(Part::Type(TypePart::TypeDef(TypeDef {
-                span: joined(start, modulus.span),
-                form: TypeForm::Modular(modulus),
-            })))?;
-            Ok(())
+            parts.put_type(
+                alloc,
+                TypePart::TypeDef(TypeDef {
+                    span: joined(start, modulus.span),
+                    form: TypeForm::Modular(modulus),
+                }),
+            )
         }
         // TypeDef = ( Id Ids )
         TypeRule::Enumeration => {
@@ -47,11 +51,13 @@ pub fn apply_type_rule(alloc: Global, rule: TypeRule, parts: &mut Parts) -> Resu
             let mut names = parts.names(alloc);
             let end = parts.place();
             names.put_first(name)?;
-            parts.put_first(Part::Type(TypePart::TypeDef(TypeDef {
-                span: joined(start, end),
-                form: TypeForm::Enumeration(names.into_items()),
-            })))?;
-            Ok(())
+            parts.put_type(
+                alloc,
+                TypePart::TypeDef(TypeDef {
+                    span: joined(start, end),
+                    form: TypeForm::Enumeration(names.into_items()),
+                }),
+            )
         }
         // TypeDef = array ( Index ) of SubInd
         TypeRule::Array => {
@@ -61,11 +67,13 @@ pub fn apply_type_rule(alloc: Global, rule: TypeRule, parts: &mut Parts) -> Resu
             parts.skip();
             parts.skip();
             let item = parts.sub_ind(alloc);
-            parts.put_first(Part::Type(TypePart::TypeDef(TypeDef {
-                span: joined(start, item.span),
-                form: TypeForm::Array(index, item),
-            })))?;
-            Ok(())
+            parts.put_type(
+                alloc,
+                TypePart::TypeDef(TypeDef {
+                    span: joined(start, item.span),
+                    form: TypeForm::Array(index, item),
+                }),
+            )
         }
         // TypeDef = record Comp Comps end record
         TypeRule::Record => {
@@ -75,57 +83,54 @@ pub fn apply_type_rule(alloc: Global, rule: TypeRule, parts: &mut Parts) -> Resu
             parts.skip();
             let end = parts.place();
             components.put_first(first)?;
-            parts.put_first(Part::Type(TypePart::TypeDef(TypeDef {
-                span: joined(start, end),
-                form: TypeForm::Record(components.into_items()),
-            })))?;
-            Ok(())
+            parts.put_type(
+                alloc,
+                TypePart::TypeDef(TypeDef {
+                    span: joined(start, end),
+                    form: TypeForm::Record(components.into_items()),
+                }),
+            )
         }
         // TypeDef = new SubInd
         TypeRule::Derived => {
             let start = parts.place();
             let parent = parts.sub_ind(alloc);
-            parts.put_first(Part::Type(TypePart::TypeDef(TypeDef {
-                span: joined(start, parent.span),
-                form: TypeForm::Derived(parent),
-            })))?;
-            Ok(())
+            parts.put_type(
+                alloc,
+                TypePart::TypeDef(TypeDef {
+                    span: joined(start, parent.span),
+                    form: TypeForm::Derived(parent),
+                }),
+            )
         }
         // Index = Simple IdxTail
         TypeRule::Index => {
             let first = parts.expr();
             let form = parts.index_form();
-            parts.put_first(Part::Type(TypePart::Index(Index { first, form })))?;
-            Ok(())
+            parts.put_type(alloc, TypePart::Index(Index { first, form }))
         }
         // IdxTail = .. Simple
         TypeRule::IndexUpTo => {
             parts.skip();
             let high = parts.expr();
-            parts.put_first(Part::Type(TypePart::IndexForm(IndexForm::UpTo(high))))?;
-            Ok(())
+            parts.put_type(alloc, TypePart::IndexForm(IndexForm::UpTo(high)))
         }
         // IdxTail =
-        TypeRule::IndexAlone => {
-            parts.put_first(Part::Type(TypePart::IndexForm(IndexForm::Alone)))?;
-            Ok(())
-        }
+        TypeRule::IndexAlone => { parts.put_type(alloc, TypePart::IndexForm(IndexForm::Alone)) }
         // Box = <>
         TypeRule::IndexUnconstrained => {
             parts.skip();
-            parts.put_first(Part::Type(TypePart::IndexForm(IndexForm::Unconstrained)))?;
-            Ok(())
+            parts.put_type(alloc, TypePart::IndexForm(IndexForm::Unconstrained))
         }
         // Box = Simple .. Simple
         TypeRule::IndexWithin => {
             let low = parts.expr();
             parts.skip();
             let high = parts.expr();
-            parts.put_first(Part::Type(TypePart::IndexForm(IndexForm::Within(Bounds {
-                low,
-                high,
-            }))))?;
-            Ok(())
+            parts.put_type(
+                alloc,
+                TypePart::IndexForm(IndexForm::Within(Bounds { low, high })),
+            )
         }
         // Comp = Id Ids : SubInd ;
         TypeRule::Component => {
@@ -135,36 +140,36 @@ pub fn apply_type_rule(alloc: Global, rule: TypeRule, parts: &mut Parts) -> Resu
             let subtype = parts.sub_ind(alloc);
             let end = parts.place();
             names.put_first(name)?;
-            parts.put_first(Part::Type(TypePart::Component(Component {
-                span: joined(name, end),
-                names: names.into_items(),
-                subtype,
-            })))?;
-            Ok(())
+            parts.put_type(
+                alloc,
+                TypePart::Component(Component {
+                    span: joined(name, end),
+                    names: names.into_items(),
+                    subtype,
+                }),
+            )
         }
         // Comps = Comp Comps
         TypeRule::Components => {
             let component = parts.component(alloc);
             let mut components = parts.components(alloc);
             components.put_first(component)?;
-            parts.put_first(Part::Type(TypePart::Components(components)))?;
-            Ok(())
+            parts.put_type(alloc, TypePart::Components(components))
         }
         // Comps =
-        TypeRule::NoComponents => {
-            parts.put_first(Part::Type(TypePart::Components(Chain::new(alloc))))?;
-            Ok(())
-        }
+        TypeRule::NoComponents => { parts.put_type(alloc, TypePart::Components(Chain::new(alloc))) }
         // SubInd = Name SubTail
         TypeRule::SubInd => {
             let name = parts.name(alloc);
             let bounds = parts.bounds();
-            parts.put_first(Part::Type(TypePart::SubInd(SubInd {
-                span: joined(name.span, bounds_end(&bounds, name.span)),
-                name,
-                bounds,
-            })))?;
-            Ok(())
+            parts.put_type(
+                alloc,
+                TypePart::SubInd(SubInd {
+                    span: joined(name.span, bounds_end(&bounds, name.span)),
+                    name,
+                    bounds,
+                }),
+            )
         }
         // SubTail = range Simple .. Simple
         TypeRule::SomeBounds => {
@@ -172,13 +177,9 @@ pub fn apply_type_rule(alloc: Global, rule: TypeRule, parts: &mut Parts) -> Resu
             let low = parts.expr();
             parts.skip();
             let high = parts.expr();
-            parts.put_first(Part::Type(TypePart::Bounds(Some(Bounds { low, high }))))?;
-            Ok(())
+            parts.put_type(alloc, TypePart::Bounds(Some(Bounds { low, high })))
         }
         // SubTail =
-        TypeRule::NoBounds => {
-            parts.put_first(Part::Type(TypePart::Bounds(None)))?;
-            Ok(())
-        }
+        TypeRule::NoBounds => { parts.put_type(alloc, TypePart::Bounds(None)) }
     }
 }

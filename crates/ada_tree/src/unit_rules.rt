@@ -5,7 +5,7 @@ ghost use Rattle.ada_tree.specs.Units.{unit_rule};
 
 use crate::chain::Chain;
 use crate::operations::joined;
-use crate::part::{Edged, Part, UnitPart};
+use crate::part::{Edged, UnitPart};
 use crate::parts::Parts;
 use crate::rules::UnitRule;
 use ada_syntax::{ContextItem, Package, PackageBody, SourceUnit, Unit, UnitForm};
@@ -21,12 +21,14 @@ pub fn apply_unit_rule(alloc: Global, rule: UnitRule, parts: &mut Parts) -> Resu
         UnitRule::File => {
             let context = parts.context(alloc);
             let unit = parts.unit(alloc);
-            parts.put_first(Part::Unit(UnitPart::SourceUnit(SourceUnit {
-                span: joined(context.edge.unwrap_or(unit.span), unit.span),
-                context: context.value.into_items(),
-                unit,
-            })))?;
-            Ok(())
+            parts.put_unit(
+                alloc,
+                UnitPart::SourceUnit(SourceUnit {
+                    span: joined(context.edge.unwrap_or(unit.span), unit.span),
+                    context: context.value.into_items(),
+                    unit,
+                }),
+            )
         }
         // Start = with Id Ids ; Start
         UnitRule::ContextWith => {
@@ -38,11 +40,13 @@ pub fn apply_unit_rule(alloc: Global, rule: UnitRule, parts: &mut Parts) -> Resu
             names.put_first(name)?;
             let mut value = context.value;
             value.put_first(ContextItem::With(names.into_items()))?;
-            parts.put_first(Part::Unit(UnitPart::Context(Edged {
-                value,
-                edge: Some(start),
-            })))?;
-            Ok(())
+            parts.put_unit(
+                alloc,
+                UnitPart::Context(Edged {
+                    value,
+                    edge: Some(start),
+                }),
+            )
         }
         // Start = use Id Ids ; Start
         UnitRule::ContextUse => {
@@ -54,11 +58,13 @@ pub fn apply_unit_rule(alloc: Global, rule: UnitRule, parts: &mut Parts) -> Resu
             names.put_first(name)?;
             let mut value = context.value;
             value.put_first(ContextItem::Use(names.into_items()))?;
-            parts.put_first(Part::Unit(UnitPart::Context(Edged {
-                value,
-                edge: Some(start),
-            })))?;
-            Ok(())
+            parts.put_unit(
+                alloc,
+                UnitPart::Context(Edged {
+                    value,
+                    edge: Some(start),
+                }),
+            )
         }
         // Start = Pragma Start
         UnitRule::ContextPragma => {
@@ -67,19 +73,23 @@ pub fn apply_unit_rule(alloc: Global, rule: UnitRule, parts: &mut Parts) -> Resu
             let start = pragma.span;
             let mut value = context.value;
             value.put_first(ContextItem::Pragma(pragma))?;
-            parts.put_first(Part::Unit(UnitPart::Context(Edged {
-                value,
-                edge: Some(start),
-            })))?;
-            Ok(())
+            parts.put_unit(
+                alloc,
+                UnitPart::Context(Edged {
+                    value,
+                    edge: Some(start),
+                }),
+            )
         }
         // Start =
         UnitRule::NoContext => {
-            parts.put_first(Part::Unit(UnitPart::Context(Edged {
-                value: Chain::new(alloc),
-                edge: None,
-            })))?;
-            Ok(())
+            parts.put_unit(
+                alloc,
+                UnitPart::Context(Edged {
+                    value: Chain::new(alloc),
+                    edge: None,
+                }),
+            )
         }
         // Ids = , Id Ids
         UnitRule::Names => {
@@ -87,32 +97,32 @@ pub fn apply_unit_rule(alloc: Global, rule: UnitRule, parts: &mut Parts) -> Resu
             let name = parts.place();
             let mut names = parts.names(alloc);
             names.put_first(name)?;
-            parts.put_first(Part::Unit(UnitPart::Names(names)))?;
-            Ok(())
+            parts.put_unit(alloc, UnitPart::Names(names))
         }
         // Ids =
-        UnitRule::NoNames => {
-            parts.put_first(Part::Unit(UnitPart::Names(Chain::new(alloc))))?;
-            Ok(())
-        }
+        UnitRule::NoNames => { parts.put_unit(alloc, UnitPart::Names(Chain::new(alloc))) }
         // Unit = package Pack
         UnitRule::UnitPackage => {
             let start = parts.place();
             let unit = parts.unit(alloc);
-            parts.put_first(Part::Unit(UnitPart::Unit(Unit {
-                span: joined(start, unit.span),
-                form: unit.form,
-            })))?;
-            Ok(())
+            parts.put_unit(
+                alloc,
+                UnitPart::Unit(Unit {
+                    span: joined(start, unit.span),
+                    form: unit.form,
+                }),
+            )
         }
         // Unit = Sub
         UnitRule::UnitSub => {
             let sub = parts.sub(alloc);
-            parts.put_first(Part::Unit(UnitPart::Unit(Unit {
-                span: sub.span,
-                form: UnitForm::Sub(sub),
-            })))?;
-            Ok(())
+            parts.put_unit(
+                alloc,
+                UnitPart::Unit(Unit {
+                    span: sub.span,
+                    form: UnitForm::Sub(sub),
+                }),
+            )
         }
         // Pack = body Id Asp is Decls end EndId ;
         UnitRule::PackageBody => {
@@ -124,16 +134,18 @@ pub fn apply_unit_rule(alloc: Global, rule: UnitRule, parts: &mut Parts) -> Resu
             parts.skip();
             let end_name = parts.end_name();
             let end = parts.place();
-            parts.put_first(Part::Unit(UnitPart::Unit(Unit {
-                span: joined(start, end),
-                form: UnitForm::PackageBody(PackageBody {
-                    name,
-                    aspects: aspects.into_items(),
-                    declarations: decls.into_items(),
-                    end_name,
+            parts.put_unit(
+                alloc,
+                UnitPart::Unit(Unit {
+                    span: joined(start, end),
+                    form: UnitForm::PackageBody(PackageBody {
+                        name,
+                        aspects: aspects.into_items(),
+                        declarations: decls.into_items(),
+                        end_name,
+                    }),
                 }),
-            })))?;
-            Ok(())
+            )
         }
         // Pack = Id Asp is Decls Priv end EndId ;
         UnitRule::PackageSpec => {
@@ -145,40 +157,34 @@ pub fn apply_unit_rule(alloc: Global, rule: UnitRule, parts: &mut Parts) -> Resu
             parts.skip();
             let end_name = parts.end_name();
             let end = parts.place();
-            parts.put_first(Part::Unit(UnitPart::Unit(Unit {
-                span: joined(name, end),
-                form: UnitForm::Package(Package {
-                    name,
-                    aspects: aspects.into_items(),
-                    declarations: decls.into_items(),
-                    private,
-                    end_name,
+            parts.put_unit(
+                alloc,
+                UnitPart::Unit(Unit {
+                    span: joined(name, end),
+                    form: UnitForm::Package(Package {
+                        name,
+                        aspects: aspects.into_items(),
+                        declarations: decls.into_items(),
+                        private,
+                        end_name,
+                    }),
                 }),
-            })))?;
-            Ok(())
+            )
         }
         // Priv = private Decls
         UnitRule::SomePrivate => {
             parts.skip();
             let decls = parts.decls(alloc);
-            parts.put_first(Part::Unit(UnitPart::Private(Some(decls.into_items()))))?;
-            Ok(())
+            parts.put_unit(alloc, UnitPart::Private(Some(decls.into_items())))
         }
         // Priv =
-        UnitRule::NoPrivate => {
-            parts.put_first(Part::Unit(UnitPart::Private(None)))?;
-            Ok(())
-        }
+        UnitRule::NoPrivate => { parts.put_unit(alloc, UnitPart::Private(None)) }
         // EndId = Id
         UnitRule::SomeEndName => {
             let name = parts.place();
-            parts.put_first(Part::Unit(UnitPart::EndName(Some(name))))?;
-            Ok(())
+            parts.put_unit(alloc, UnitPart::EndName(Some(name)))
         }
         // EndId =
-        UnitRule::NoEndName => {
-            parts.put_first(Part::Unit(UnitPart::EndName(None)))?;
-            Ok(())
-        }
+        UnitRule::NoEndName => { parts.put_unit(alloc, UnitPart::EndName(None)) }
     }
 }

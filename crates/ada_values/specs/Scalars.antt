@@ -1,9 +1,17 @@
 -- Scalar subtypes. -- Ada RM 3.5
-use Rattle.std.specs.Prelude.{◌≡◌, Bool, ◌&&◌, Option, Some, None, ℤ, pos, negsuc, ◌≤ℤ◌, ◌-ℤ◌}
+use Rattle.std.specs.Prelude.{◌≡◌, ℕ, Bool, ◌&&◌, Option, Some, None, ℤ, pos, negsuc, ◌≤ℤ◌, ◌-ℤ◌}
 use Rattle.std.specs.Int.RustNames.{int_le}
 use Rattle.ada_values.specs.declared.scalars.Scalar.{Scalar}
 use Rattle.ada_values.specs.declared.scalars.Op.{Op}
 use Rattle.ada_values.specs.declared.scalars.Op.TheVariants.{Pow}
+
+-- Integer'Last; Integer'First is one further from 0 -- Ada RM 3.5.4
+abbrev pub integer_last : ℕ
+integer_last = 2147483647
+
+-- the subtype Integer
+abbrev pub integer : Scalar
+integer = record { lo = negsuc integer_last; hi = pos integer_last; base_lo = negsuc integer_last; base_hi = pos integer_last; modulus = None }
 
 abbrev pub within : ℤ → ℤ → ℤ → Bool
 within lo hi v = int_le lo v && int_le v hi
@@ -31,5 +39,5 @@ InBase s v = IsBetween s.base_lo s.base_hi v
 
 -- an exponent is an Integer, and any other right operand lies in the base range -- Ada RM 4.5.6
 abbrev pub IsRight : Op → ℤ → ℤ → ℤ → Type 0
-IsRight Pow lo hi b = IsBetween (negsuc 2147483647) (pos 2147483647) b
+IsRight Pow lo hi b = IsBetween (negsuc integer_last) (pos integer_last) b
 IsRight _ lo hi b = IsBetween lo hi b

@@ -2,6 +2,7 @@
 use Rattle.std.specs.Prelude.{◌≡◌, Option, Result, Ok, Err, ℤ, pos, ◌≤ℤ◌, FitsSigned}
 use Rattle.std.specs.Int.{w128}
 use Rattle.std.specs.Option.{SomeIff}
+use Rattle.ada_values.specs.Scalars.{integer_last}
 use Rattle.ada_values.specs.declared.scalars.Op.{Op}
 use Rattle.ada_values.specs.declared.scalars.Op.TheVariants.{Pow}
 use Rattle.ada_values.specs.declared.scalars.OpFault.{OpFault}
@@ -12,7 +13,7 @@ IsWhole (Ok z) (Ok o) = SomeIff o (FitsSigned w128 z) z
 IsWhole (Err e) (Err f) = f ≡ e
 IsWhole _ _ = ⊥
 
--- an exponent has 31 bits
+-- an exponent is at most Integer'Last
 abbrev pub IsExponent : Op → ℤ → Type 0
-IsExponent Pow b = b ≤ℤ pos 2147483647
+IsExponent Pow b = b ≤ℤ pos integer_last
 IsExponent _ b = Unit {0}

@@ -11,9 +11,9 @@ mod values;
 pub use names::{ByteList, NameList, NameText, WordList};
 pub use operations::{combine, operation_laws};
 pub use place::Place;
-pub use scalars::{Op, OpFault, Scalar, in_scalar};
+pub use scalars::{INTEGER_FIRST, INTEGER_LAST, Op, OpFault, Scalar, in_scalar};
 pub use shapes::{ArrayShape, Shape, ShapeIds, ShapeList, in_shape, part_laws};
 pub use values::{ArrayValue, FieldList, ItemList, Value, same_value};
 
-#[cfg(test)]
-mod tests;
+/// Want of memory. Where a call names no other cause, this is its only error.
+pub use std::alloc::AllocError as Starved;

@@ -2,8 +2,9 @@
 
 ghost use Rattle.std.specs.Prelude.{◌≡◌, ◌↔◌, IfOk, IsTrue, string_bytes};
 
+use crate::Starved;
 use sqlite_items::Items;
-use std::alloc::{AllocError, Global};
+use std::alloc::Global;
 use std::marker::Model;
 
 /// Bytes, as a file holds them.
@@ -16,9 +17,17 @@ pub type NameList = Items<NameText>;
 pub type WordList = Items<NameText>;
 
 /// The text of a name, which contracts see as the list of its bytes.
-#[derive(Debug, Drop)]
+#[derive(Debug)]
 pub struct NameText {
     bytes: Vec<u8>,
+}
+
+// Written out, so that crates that let names go need no proof of theirs.
+impl Drop for NameText {
+    fn drop(self) {
+        let NameText { bytes } = self;
+        drop(bytes);
+    }
 }
 
 impl Model for NameText {
@@ -31,7 +40,7 @@ impl Model for NameText {
 
 impl NameText {
     /// A name of these bytes.
-    pub fn from_bytes(alloc: Global, bytes: &[u8]) -> Result<NameText, AllocError>
+    pub fn from_bytes(alloc: Global, bytes: &[u8]) -> Result<NameText, Starved>
         ensures { IfOk result (λ name. name ≡ bytes.now) }
     {
         let bytes = Vec::from_slice(alloc, bytes)?;
@@ -39,14 +48,14 @@ impl NameText {
     }
 
     /// A name of this text.
-    pub fn from_text(alloc: Global, text: &str) -> Result<NameText, AllocError>
+    pub fn from_text(alloc: Global, text: &str) -> Result<NameText, Starved>
         ensures { IfOk result (λ name. name ≡ text.now) }
     {
         NameText::from_bytes(alloc, text.as_bytes())
     }
 
     /// A copy of the name.
-    pub fn copy(&self, alloc: Global) -> Result<NameText, AllocError>
+    pub fn copy(&self, alloc: Global) -> Result<NameText, Starved>
         ensures { IfOk result (λ name. name ≡ self.now) }
     {
         NameText::from_bytes(alloc, self.as_bytes())

@@ -3,7 +3,7 @@
 ghost use Rattle.std.specs.Prelude.{◌≡◌, ◌≢◌, pos, ◌≤ℤ◌, ◌<◌, ◌≤◌, ◌%◌, ◌^◌, ◌-ℤ◌};
 ghost use Rattle.ada_values.specs.Combine.{floor_mod, exact, ranged, wrapped, combined, ResultLaw};
 ghost use Rattle.ada_values.specs.Division.{ModuloLaw, QuotientLaw};
-ghost use Rattle.ada_values.specs.Scalars.{IsScalar, InBase, IsBetween, IsRight};
+ghost use Rattle.ada_values.specs.Scalars.{integer_last, IsScalar, InBase, IsBetween, IsRight};
 ghost use Rattle.ada_values.specs.Whole.{IsWhole, IsExponent};
 
 use crate::scalars::{Op, OpFault, Scalar};
@@ -69,7 +69,7 @@ fn modular_result(op: Op, modulus: i128, a: i128, b: i128) -> Result<i128, OpFau
 fn modular_power(modulus: i128, a: i128, b: i128) -> Result<i128, OpFault>
     requires modulus { IsBetween (pos 2) (pos 4294967296) modulus }
     requires left { IsBetween (pos 0) (modulus -ℤ pos 1) a }
-    requires right { b ≤ℤ pos 2147483647 }
+    requires right { b ≤ℤ pos integer_last }
     ensures { result ≡ wrapped modulus (exact Op.Pow a b) }
 {
     if b < 0 {
@@ -146,7 +146,7 @@ fn modulo(a: i128, b: i128) -> Result<Option<i128>, OpFault>
 }
 
 fn power(a: i128, b: i128) -> Result<Option<i128>, OpFault>
-    requires { b ≤ℤ pos 2147483647 }
+    requires { b ≤ℤ pos integer_last }
     ensures { IsWhole (exact Op.Pow a b) result }
 {
     if b < 0 {

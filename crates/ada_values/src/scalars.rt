@@ -3,6 +3,12 @@
 ghost use Rattle.std.specs.Prelude.{◌≡◌};
 ghost use Rattle.ada_values.specs.Scalars.{in_scalar};
 
+/// The first value of the subtype Integer (Ada RM 3.5.4).
+pub const INTEGER_FIRST: i128 = -2_147_483_648;
+
+/// The last value of the subtype Integer, which is the greatest exponent too.
+pub const INTEGER_LAST: i128 = 2_147_483_647;
+
 /// An arithmetic operation of the language (Ada RM 4.5.3 to 4.5.6).
 #[derive(Clone, Copy, Debug, PartialEq, Eq)]
 pub enum Op {

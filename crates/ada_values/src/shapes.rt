@@ -26,7 +26,7 @@ pub struct ArrayShape {
 }
 
 /// What values a subtype has.
-#[derive(Debug, Drop)]
+#[derive(Drop)]
 pub enum Shape {
     /// Whole numbers, or the positions of an enumeration.
     Number(Scalar),

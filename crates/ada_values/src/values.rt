@@ -3,8 +3,9 @@
 ghost use Rattle.std.specs.Prelude.{◌≡◌, IfOk};
 ghost use Rattle.ada_values.specs.Value.{value, values, same_val, same_vals};
 
+use crate::Starved;
 use sqlite_items::Items;
-use std::alloc::{AllocError, Global};
+use std::alloc::Global;
 
 /// The items of an array, in the order of their indexes.
 pub type ItemList = Items<Value>;
@@ -31,7 +32,7 @@ pub struct ArrayValue<V> {
 
 impl Value {
     /// A copy of the value.
-    pub fn copy(&self, alloc: Global) -> Result<Value, AllocError>
+    pub fn copy(&self, alloc: Global) -> Result<Value, Starved>
         ensures { IfOk result (λ c. c ≡ self.now) }
     {
         copy_value(alloc, self)
@@ -80,7 +81,7 @@ fn same_values(a: &Items<Value>, b: &Items<Value>) -> bool
 }
 
 #[cycle(copy)]
-fn copy_value(alloc: Global, v: &Value) -> Result<Value, AllocError>
+fn copy_value(alloc: Global, v: &Value) -> Result<Value, Starved>
     ensures { IfOk result (λ c. c ≡ v.now) }
 {
     match v {
@@ -99,7 +100,7 @@ fn copy_value(alloc: Global, v: &Value) -> Result<Value, AllocError>
 }
 
 #[cycle(copy)]
-fn copy_values(alloc: Global, values: &Items<Value>) -> Result<Items<Value>, AllocError>
+fn copy_values(alloc: Global, values: &Items<Value>) -> Result<Items<Value>, Starved>
     ensures { IfOk result (λ c. c ≡ values.now) }
 {
     let mut copy = Items::new(alloc);

@@ -6,16 +6,58 @@ ghost use Rattle.logic_terms.specs.Sorts.{sort};
 ghost use Rattle.logic_terms.specs.View.{formula, term};
 ghost use Rattle.cert_rules.specs.Clause.{equals as equals_at};
 ghost use Rattle.cert_rules.specs.Compound.{array_clause as array_clause_of, extensional as extensional_by, filled_fact as filled_fact_of};
+ghost use Rattle.cert_rules.specs.Judged.{yields};
 ghost use Rattle.cert_rules.specs.Judges.{Judges, clause};
 
 use cert_rules::{
-    boxed, clause_of_four, clause_of_one, clause_of_three, clause_of_two, equal, equals, first,
-    item, last, not, not_at_most, not_equal,
+    LineFault, boxed, clause_of_four, clause_of_one, clause_of_three, clause_of_two, equal, equals,
+    first, item, last, not, not_at_most, not_equal,
 };
-use cert_rules::LineFault;
 use logic_terms::{Formula, FormulaList, Sort, Starved, Term};
 use sqlite_items::Boxed;
 use std::alloc::Global;
+
+/// `(= i j)`.
+fn same(alloc: Global, i: &Term, j: &Term) -> Result<Boxed<Formula>, Starved>
+    ensures { IfOk result (λ r. formula r ≡ op2 eq (term i.now) (term j.now)) }
+{
+    equal(alloc, boxed(alloc, i)?, boxed(alloc, j)?)
+}
+
+/// `(not (= i j))`.
+fn differ(alloc: Global, i: &Term, j: &Term) -> Result<Boxed<Formula>, Starved>
+    ensures { IfOk result (λ r. formula r ≡ op1 neg (op2 eq (term i.now) (term j.now))) }
+{
+    not_equal(alloc, boxed(alloc, i)?, boxed(alloc, j)?)
+}
+
+/// `(not (<= i j))`.
+fn past(alloc: Global, i: &Term, j: &Term) -> Result<Boxed<Formula>, Starved>
+    ensures { IfOk result (λ r. formula r ≡ op1 neg (op2 le (term i.now) (term j.now))) }
+{
+    not_at_most(alloc, boxed(alloc, i)?, boxed(alloc, j)?)
+}
+
+/// `(= t v)`, where the terms are of this sort.
+fn is_value(alloc: Global, of: &Sort, t: &Term, v: &Term) -> Result<Boxed<Formula>, Starved>
+    ensures { IfOk result (λ r. formula r ≡ equals_at (sort of.now) (term t.now) (term v.now)) }
+{
+    equals(alloc, of, boxed(alloc, t)?, boxed(alloc, v)?)
+}
+
+/// `(= t (sel a j))`, where the terms are of this sort.
+fn is_item(
+    alloc: Global,
+    of: &Sort,
+    t: &Term,
+    a: &Term,
+    j: &Term,
+) -> Result<Boxed<Formula>, Starved>
+    ensures { IfOk result (λ r. formula r ≡ equals_at (sort of.now) (term t.now) (op2 sel (term a.now) (term j.now))) }
+{
+    let there = item(alloc, a, boxed(alloc, j)?)?;
+    equals(alloc, of, boxed(alloc, t)?, there)
+}
 
 /// `(not (<= (fst a) j))`.
 fn before_first(alloc: Global, a: &Term, j: &Term) -> Result<Boxed<Formula>, Starved>
@@ -40,16 +82,16 @@ fn changed_item(
     i: &Term,
     v: &Term,
     j: &Term,
-) -> Result<FormulaList, Starved>
-    ensures { IfOk result (λ r. clause r ≡ op1 neg (op2 eq (term i.now) (term j.now)) ∷ op1 neg (op2 le (op1 fst (term a.now)) (term j.now)) ∷ op1 neg (op2 le (term j.now) (op1 lst (term a.now))) ∷ equals_at (sort of.now) (term t.now) (term v.now) ∷ []) }
+) -> Result<FormulaList, LineFault>
+    ensures { Judges clause (yields (op1 neg (op2 eq (term i.now) (term j.now)) ∷ op1 neg (op2 le (op1 fst (term a.now)) (term j.now)) ∷ op1 neg (op2 le (term j.now) (op1 lst (term a.now))) ∷ equals_at (sort of.now) (term t.now) (term v.now) ∷ [])) result }
 {
-    clause_of_four(
+    Ok(clause_of_four(
         alloc,
-        not_equal(alloc, boxed(alloc, i)?, boxed(alloc, j)?)?,
+        differ(alloc, i, j)?,
         before_first(alloc, a, j)?,
         past_last(alloc, a, j)?,
-        equals(alloc, of, boxed(alloc, t)?, boxed(alloc, v)?)?,
-    )
+        is_value(alloc, of, t, v)?,
+    )?)
 }
 
 /// What `t`, the item at `j` of an array `a` with `v` at `i`, is: that of `a`, where `i` and `j` are not equal.
@@ -60,12 +102,11 @@ fn kept_item(
     a: &Term,
     i: &Term,
     j: &Term,
-) -> Result<FormulaList, Starved>
-    ensures { IfOk result (λ r. clause r ≡ op2 eq (term i.now) (term j.now) ∷ equals_at (sort of.now) (term t.now) (op2 sel (term a.now) (term j.now)) ∷ []) }
+) -> Result<FormulaList, LineFault>
+    ensures { Judges clause (yields (op2 eq (term i.now) (term j.now) ∷ equals_at (sort of.now) (term t.now) (op2 sel (term a.now) (term j.now)) ∷ [])) result }
 {
-    let kept = item(alloc, a, boxed(alloc, j)?)?;
-    let is = equals(alloc, of, boxed(alloc, t)?, kept)?;
-    clause_of_two(alloc, equal(alloc, boxed(alloc, i)?, boxed(alloc, j)?)?, is)
+    let is = is_item(alloc, of, t, a, j)?;
+    Ok(clause_of_two(alloc, same(alloc, i, j)?, is)?)
 }
 
 /// What `t`, the item at `j` of the array from `f` to `l` with `v` throughout, is: `v`, within the bounds.
@@ -77,15 +118,15 @@ fn filled_item(
     l: &Term,
     v: &Term,
     j: &Term,
-) -> Result<FormulaList, Starved>
-    ensures { IfOk result (λ r. clause r ≡ filled_fact_of (sort of.now) (term t.now) (term f.now) (term l.now) (term v.now) (term j.now)) }
+) -> Result<FormulaList, LineFault>
+    ensures { Judges clause (yields (filled_fact_of (sort of.now) (term t.now) (term f.now) (term l.now) (term v.now) (term j.now))) result }
 {
-    clause_of_three(
+    Ok(clause_of_three(
         alloc,
-        not_at_most(alloc, boxed(alloc, f)?, boxed(alloc, j)?)?,
-        not_at_most(alloc, boxed(alloc, j)?, boxed(alloc, l)?)?,
-        equals(alloc, of, boxed(alloc, t)?, boxed(alloc, v)?)?,
-    )
+        past(alloc, f, j)?,
+        past(alloc, j, l)?,
+        is_value(alloc, of, t, v)?,
+    )?)
 }
 
 /// What the item `t` at `j` of `a` is, for a changed or a filled array.
@@ -103,12 +144,12 @@ fn item_clause(
 {
     match a {
         Term::Sto(b, i, v) => match part {
-            0 => Ok(changed_item(alloc, of, t, b.get(), i.get(), v.get(), j)?),
-            1 => Ok(kept_item(alloc, of, t, b.get(), i.get(), j)?),
+            0 => changed_item(alloc, of, t, b.get(), i.get(), v.get(), j),
+            1 => kept_item(alloc, of, t, b.get(), i.get(), j),
             _ => Err(LineFault::NotAllowed),
         },
         Term::Fill(f, l, v) => match part {
-            4 => Ok(filled_item(alloc, of, t, f.get(), l.get(), v.get(), j)?),
+            4 => filled_item(alloc, of, t, f.get(), l.get(), v.get(), j),
             _ => Err(LineFault::NotAllowed),
         },
         _ => Err(LineFault::NotAllowed),
@@ -116,10 +157,10 @@ fn item_clause(
 }
 
 /// That `t` is `u`.
-fn same_number(alloc: Global, t: &Term, u: Boxed<Term>) -> Result<FormulaList, Starved>
-    ensures { IfOk result (λ r. clause r ≡ op2 eq (term t.now) (term u) ∷ []) }
+fn same_number(alloc: Global, t: &Term, u: Boxed<Term>) -> Result<FormulaList, LineFault>
+    ensures { Judges clause (yields (op2 eq (term t.now) (term u) ∷ [])) result }
 {
-    clause_of_one(alloc, equal(alloc, boxed(alloc, t)?, u)?)
+    Ok(clause_of_one(alloc, equal(alloc, boxed(alloc, t)?, u)?)?)
 }
 
 /// What the first index `t` of `a` is, for a changed or a filled array.
@@ -135,11 +176,11 @@ fn first_clause(
 {
     match a {
         Term::Sto(b, _, _) => match part {
-            2 => Ok(same_number(alloc, t, first(alloc, b.get())?)?),
+            2 => same_number(alloc, t, first(alloc, b.get())?),
             _ => Err(LineFault::NotAllowed),
         },
         Term::Fill(f, _, _) => match part {
-            5 => Ok(same_number(alloc, t, boxed(alloc, f.get())?)?),
+            5 => same_number(alloc, t, boxed(alloc, f.get())?),
             _ => Err(LineFault::NotAllowed),
         },
         _ => Err(LineFault::NotAllowed),
@@ -159,11 +200,11 @@ fn last_clause(
 {
     match a {
         Term::Sto(b, _, _) => match part {
-            3 => Ok(same_number(alloc, t, last(alloc, b.get())?)?),
+            3 => same_number(alloc, t, last(alloc, b.get())?),
             _ => Err(LineFault::NotAllowed),
         },
         Term::Fill(_, l, _) => match part {
-            6 => Ok(same_number(alloc, t, boxed(alloc, l.get())?)?),
+            6 => same_number(alloc, t, boxed(alloc, l.get())?),
             _ => Err(LineFault::NotAllowed),
         },
         _ => Err(LineFault::NotAllowed),
@@ -209,7 +250,7 @@ fn somewhere(alloc: Global, a: &Term, p: Boxed<Formula>) -> Result<Boxed<Formula
     ensures { IfOk result (λ r. formula r ≡ quant any (op1 fst (term a.now)) (op1 lst (term a.now)) (formula p)) }
 {
     let from = first(alloc, a)?;
-    Ok(Boxed::new(alloc, Formula::Any(from, last(alloc, a)?, p))?)
+    Boxed::new(alloc, Formula::Any(from, last(alloc, a)?, p))
 }
 
 /// `(not (= (fst a) (fst b)))`.
@@ -226,6 +267,18 @@ fn lasts_differ(alloc: Global, a: &Term, b: &Term) -> Result<Boxed<Formula>, Sta
     not_equal(alloc, last(alloc, a)?, last(alloc, b)?)
 }
 
+/// `(any (fst a) (lst a) (not (= (sel a b0) (sel b b0))))`, where the items are of this sort.
+fn some_item_differs(
+    alloc: Global,
+    of: &Sort,
+    a: &Term,
+    b: &Term,
+) -> Result<Boxed<Formula>, Starved>
+    ensures { IfOk result (λ r. formula r ≡ quant any (op1 fst (term a.now)) (op1 lst (term a.now)) (op1 neg (equals_at (sort of.now) (op2 sel (term a.now) (bound 0)) (op2 sel (term b.now) (bound 0))))) }
+{
+    somewhere(alloc, a, items_differ(alloc, of, a, b)?)
+}
+
 /// That two arrays with items of this sort are equal where their bounds are and no item differs.
 pub fn extensional(
     alloc: Global,
@@ -235,12 +288,11 @@ pub fn extensional(
 ) -> Result<FormulaList, Starved>
     ensures { IfOk result (λ r. clause r ≡ extensional_by (sort item_of.now) (term a.now) (term b.now)) }
 {
-    let differ = somewhere(alloc, a, items_differ(alloc, item_of, a, b)?)?;
     clause_of_four(
         alloc,
-        equal(alloc, boxed(alloc, a)?, boxed(alloc, b)?)?,
+        same(alloc, a, b)?,
         firsts_differ(alloc, a, b)?,
         lasts_differ(alloc, a, b)?,
-        differ,
+        some_item_differs(alloc, item_of, a, b)?,
     )
 }

@@ -1,5 +1,5 @@
 -- Lines that are allowed where a condition holds.
-use Rattle.std.proofs.Common.{◌≡◌, refl, sym, ◌∙◌, ap, subst, ℕ, suc, Bool, true, false, List, [], ◌∷◌, map, length, drop, get_or, ◌<◌, ◌≤◌, ◌+◌, Option, Some, None, arith, add-one, drop-cons}
+use Rattle.std.proofs.Common.{◌≡◌, refl, sym, ◌∙◌, ap, subst, ℕ, suc, Bool, true, false, List, [], ◌∷◌, map, length, drop, get_or, ◌<◌, ◌≤◌, ◌+◌, Option, Some, None, Result, arith, add-one, drop-cons}
 use Rattle.std.specs.Prelude.{◌&&◌, nat_eq, ◌-◌}
 use Rattle.std.proofs.lemmas.Bool.{false≢true, eqb-true}
 use Rattle.std.proofs.Common.{eq-eqb}
@@ -16,8 +16,9 @@ use Rattle.logic_terms.specs.declared.goal.Symbol.{Symbol}
 use Rattle.logic_terms.specs.declared.syntax.Formula.{Formula}
 use Rattle.logic_terms.proofs.SortedClosed.{sorted_closed}
 use Rattle.cert_rules.specs.Judged.{Judged, refused, when}
-use Rattle.cert_rules.specs.Context.{signature, is_some_truths, is_formula, all_formulas}
-use Rattle.cert_rules.specs.Judges.{IsFault}
+use Rattle.cert_lines.specs.Symbols.{is_some_truths}
+use Rattle.cert_rules.specs.Context.{signature, is_formula, all_formulas}
+use Rattle.cert_rules.specs.Judges.{IsFault, Judges, clause}
 use Rattle.cert_rules.specs.Rules.{of_kind}
 use Rattle.cert_rules.specs.declared.fault.LineFault.{LineFault}
 use Rattle.cert_linear.specs.Here.{here}
@@ -27,10 +28,15 @@ pub fault_when : {A : Type 0} (e : LineFault) (b : Bool) (j : Judged A) → b �
 fault_when e true j h f = f
 fault_when e false j h f = absurd (false≢true h)
 
--- a fault of what a rule says of a term of this kind
-pub fault_of_kind : (e : LineFault) (o : Option Kind) (k : Kind) (f : Kind → Judged (List Node)) → o ≡ Some k → IsFault e (f k) → IsFault e (of_kind o f)
-fault_of_kind e (Some j) k f h i = let s : k ≡ j = cc in subst (λ (m : Kind). IsFault e (f m)) s i
-fault_of_kind e None k f h i = absurd (cc)
+-- what a rule says where the condition holds
+pub judged_when : (r : Result (List Formula) LineFault) (b : Bool) (j : Judged (List Node)) → b ≡ true → Judges clause j r → Judges clause (when b j) r
+judged_when r true j h f = f
+judged_when r false j h f = absurd (false≢true h)
+
+-- what a rule says of a term of this kind
+pub judged_of_kind : (r : Result (List Formula) LineFault) (o : Option Kind) (k : Kind) (f : Kind → Judged (List Node)) → o ≡ Some k → Judges clause (f k) r → Judges clause (of_kind o f) r
+judged_of_kind r (Some j) k f h i = let s : k ≡ j = cc in subst (λ (m : Kind). Judges clause (f m) r) s i
+judged_of_kind r None k f h i = absurd (cc)
 
 -- ---- formulas, one after another
 

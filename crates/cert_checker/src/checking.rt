@@ -11,8 +11,8 @@ ghost use Rattle.cert_checker.specs.Answers.{Answers, Refuses};
 use crate::judging::judge;
 use crate::refusal::CertRefusal;
 use cert_lines::{Cert, CertLine};
-use cert_store::ClauseStore;
 use cert_rules::LineFault;
+use cert_store::ClauseStore;
 use logic_terms::Goal;
 use std::alloc::Global;
 

@@ -1,6 +1,6 @@
 //! The lines of each rule, where their terms and formulas are closed and well sorted.
 
-#![tactic(auto, using(crate::proofs::Allowed::fault_when, crate::proofs::Allowed::fault_of_kind))]
+#![tactic(auto, using(crate::proofs::Allowed::fault_when, crate::proofs::Allowed::judged_when, crate::proofs::Allowed::judged_of_kind))]
 
 ghost use Rattle.std.specs.Prelude.{◌≡◌, ◌==◌, IfOk, List, map};
 ghost use Rattle.logic_terms.specs.View.{term, formula};
@@ -17,20 +17,20 @@ ghost use Rattle.cert_linear.specs.Here.{context, here};
 ghost use Rattle.cert_store.specs.Store.{clauses};
 
 use cert_arrays::{array_clause, extensional};
-use cert_lines::{HintList, StepLines};
-use cert_store::ClauseStore;
-use cert_division::division_fact;
-use cert_rules::LineFault;
-use cert_linear::linear_line;
-use logic_terms::{
-    Formula, FormulaList, Goal, Sort, Starved, Term, copy_formulas, is_constant, same_sort,
-};
 use cert_clauses::{
     compared, computed, field_clause, instance_of, multiplied, opened, sides, witness_of,
 };
-use std::alloc::Global;
+use cert_division::division_fact;
+use cert_linear::linear_line;
+use cert_lines::{HintList, StepLines};
 use cert_replacing::replacement;
-use cert_sorts::{is_formula, is_number, sort_of};
+use cert_rules::LineFault;
+use cert_sorts::{FoundSort, is_formula, is_number, sort_of};
+use cert_store::ClauseStore;
+use logic_terms::{
+    Formula, FormulaList, Goal, Sort, Starved, Term, copy_formulas, is_constant, same_sort,
+};
+use std::alloc::Global;
 
 /// A line by C2 of a connective.
 pub fn opening(
@@ -43,7 +43,7 @@ pub fn opening(
     ensures { Judges clause (judge (here goal.now fresh) (opening part (formula p.now))) result }
 {
     if is_formula(alloc, goal, fresh, p)? {
-        Ok(opened(alloc, p, part)?)
+        opened(alloc, p, part)
     } else {
         Err(LineFault::NotAllowed)
     }
@@ -60,7 +60,7 @@ pub fn choice(
     ensures { Judges clause (judge (here goal.now fresh) (choice part (term t.now))) result }
 {
     match sort_of(alloc, goal, fresh, t)? {
-        Some(sort) => Ok(sides(alloc, &sort, t, part)?),
+        Some(sort) => sides(alloc, sort.get(), t, part),
         None => Err(LineFault::NotAllowed),
     }
 }
@@ -141,7 +141,7 @@ pub fn instance(
     ensures { Judges clause (judge (here goal.now fresh) (instance (term t.now) (formula q.now))) result }
 {
     if is_number(alloc, goal, fresh, t)? && is_formula(alloc, goal, fresh, q)? {
-        Ok(instance_of(alloc, t, q)?)
+        instance_of(alloc, t, q)
     } else {
         Err(LineFault::NotAllowed)
     }
@@ -170,7 +170,7 @@ pub fn witness(
     ensures { Judges clause (judge (here goal.now fresh) (witness symbol (formula q.now))) result }
 {
     if is_next(goal, fresh, symbol) && is_formula(alloc, goal, fresh, q)? {
-        Ok(witness_of(alloc, symbol, q)?)
+        witness_of(alloc, symbol, q)
     } else {
         Err(LineFault::NotAllowed)
     }
@@ -189,7 +189,7 @@ pub fn replacing(
     ensures { Judges clause (judge (here goal.now fresh) (replacing direction occurrence (formula equation.now) (formula literal.now))) result }
 {
     if is_formula(alloc, goal, fresh, equation)? && is_formula(alloc, goal, fresh, literal)? {
-        Ok(replacement(alloc, direction, occurrence, equation, literal)?)
+        replacement(alloc, direction, occurrence, equation, literal)
     } else {
         Err(LineFault::NotAllowed)
     }
@@ -206,7 +206,7 @@ pub fn array_fact(
     ensures { Judges clause (judge (here goal.now fresh) (array_fact part (term t.now))) result }
 {
     match sort_of(alloc, goal, fresh, t)? {
-        Some(sort) => Ok(array_clause(alloc, &sort, t, part)?),
+        Some(sort) => array_clause(alloc, sort.get(), t, part),
         None => Err(LineFault::NotAllowed),
     }
 }
@@ -214,16 +214,16 @@ pub fn array_fact(
 /// A line by C10 of terms of these sorts.
 fn extensionality_at(
     alloc: Global,
-    first: &Option<Sort>,
-    second: &Option<Sort>,
+    first: &FoundSort,
+    second: &FoundSort,
     a: &Term,
     b: &Term,
 ) -> Result<FormulaList, LineFault>
     ensures { Judges clause (of_arrays (found first.now) (found second.now) (λ k. yields (extensional_by k (term a.now) (term b.now)))) result }
 {
-    match first {
-        Some(Sort::Array(j)) => match second {
-            Some(Sort::Array(k)) => {
+    match (first, second) {
+        (Some(first), Some(second)) => match (first.get(), second.get()) {
+            (Sort::Array(j), Sort::Array(k)) => {
                 if same_sort(j.get(), k.get()) {
                     Ok(extensional(alloc, j.get(), a, b)?)
                 } else {
@@ -262,7 +262,7 @@ pub fn field_fact(
     ensures { Judges clause (judge (here goal.now fresh) (field_fact part (term t.now))) result }
 {
     match sort_of(alloc, goal, fresh, t)? {
-        Some(sort) => Ok(field_clause(alloc, &sort, t, part)?),
+        Some(sort) => field_clause(alloc, sort.get(), t, part),
         None => Err(LineFault::NotAllowed),
     }
 }
@@ -279,7 +279,7 @@ pub fn division(
     ensures { Judges clause (judge (here goal.now fresh) (division part (term a.now) d)) result }
 {
     if is_number(alloc, goal, fresh, a)? && d != 0 {
-        Ok(division_fact(alloc, a, d, part)?)
+        division_fact(alloc, a, d, part)
     } else {
         Err(LineFault::NotAllowed)
     }
@@ -312,7 +312,7 @@ pub fn computing(
     ensures { Judges clause (judge (here goal.now fresh) (computing (formula p.now))) result }
 {
     if is_formula(alloc, goal, fresh, p)? && is_constant(p) {
-        Ok(computed(alloc, p)?)
+        computed(alloc, p)
     } else {
         Err(LineFault::NotAllowed)
     }

@@ -9,7 +9,8 @@ ghost use Rattle.cert_rules.specs.Judges.{Judges, clause};
 
 use crate::opening::one_literal;
 use cert_rules::LineFault;
-use logic_terms::{Formula, FormulaList, TruthFault, truth};
+use logic_terms::{Formula, FormulaList};
+use logic_truth::{TruthFault, truth};
 use std::alloc::Global;
 
 /// A formula without symbols, calls and free variables, or its negation, by its truth.
@@ -21,7 +22,7 @@ pub fn computed(alloc: Global, p: &Formula) -> Result<FormulaList, LineFault>
     ensures { Judges clause (computed_of (formula p.now) (run most_nodes [] (formula p.now))) result }
 {
     match truth(alloc, p) {
-        Ok(holds) => Ok(one_literal(alloc, p, holds)?),
+        Ok(holds) => one_literal(alloc, p, holds),
         Err(TruthFault::Wide) => Err(LineFault::Wide),
         Err(TruthFault::TooLong) => Err(LineFault::NotAllowed),
         Err(TruthFault::Starved) => Err(LineFault::Starved),

@@ -1,30 +1,29 @@
 //! What connectives, choices and numbers say of their parts.
 
 ghost use Rattle.std.specs.Prelude.{◌≡◌, ◌∷◌, [], IfOk};
-ghost use Rattle.logic_terms.specs.Node.{arith, le, mul, neg, op1, op2};
+ghost use Rattle.logic_terms.specs.Node.{arith, eq, le, mul, neg, op1, op2};
 ghost use Rattle.logic_terms.specs.Goal.{problem};
 ghost use Rattle.logic_terms.specs.Sorts.{sort};
 ghost use Rattle.logic_terms.specs.View.{formula, term};
-ghost use Rattle.cert_rules.specs.Judged.{part_of};
+ghost use Rattle.cert_rules.specs.Judged.{part_of, yields};
 ghost use Rattle.cert_rules.specs.Opening.{at_least_0, compared as compared_by, hypothesis as hypothesis_of, multiplied as multiplied_by, one_more, opened as opened_by, opened_and, opened_bit, opened_iff, opened_or, sides as sides_of};
 ghost use Rattle.cert_rules.specs.Clause.{equals as equals_at};
 ghost use Rattle.cert_rules.specs.Judges.{Judges, clause};
 ghost use Rattle.cert_rules.specs.Literal.{literal as literal_of};
 
 use cert_rules::{
-    at_most, boxed, clause_of_one, clause_of_three, clause_of_two, equal, equals, literal,
-    not_at_most, number, product, sum,
+    LineFault, at_most, boxed, clause_of_one, clause_of_three, clause_of_two, equal, equals,
+    literal, not_at_most, number, product, sum,
 };
-use cert_rules::LineFault;
 use logic_terms::{Formula, FormulaList, Goal, Sort, Starved, Term};
 use sqlite_items::Boxed;
 use std::alloc::Global;
 
 /// The clause of one literal.
-pub fn one_literal(alloc: Global, p: &Formula, holds: bool) -> Result<FormulaList, Starved>
-    ensures { IfOk result (λ r. clause r ≡ literal_of holds (formula p.now) ∷ []) }
+pub fn one_literal(alloc: Global, p: &Formula, holds: bool) -> Result<FormulaList, LineFault>
+    ensures { Judges clause (yields (literal_of holds (formula p.now) ∷ [])) result }
 {
-    clause_of_one(alloc, literal(alloc, p, holds)?)
+    Ok(clause_of_one(alloc, literal(alloc, p, holds)?)?)
 }
 
 /// The clause of two literals, each a formula or its negation.
@@ -34,14 +33,14 @@ fn two_literals(
     a_holds: bool,
     p: &Formula,
     p_holds: bool,
-) -> Result<FormulaList, Starved>
-    ensures { IfOk result (λ r. clause r ≡ literal_of a_holds (formula a.now) ∷ literal_of p_holds (formula p.now) ∷ []) }
+) -> Result<FormulaList, LineFault>
+    ensures { Judges clause (yields (literal_of a_holds (formula a.now) ∷ literal_of p_holds (formula p.now) ∷ [])) result }
 {
-    clause_of_two(
+    Ok(clause_of_two(
         alloc,
         literal(alloc, a, a_holds)?,
         literal(alloc, p, p_holds)?,
-    )
+    )?)
 }
 
 /// The clause of three literals, each a formula or its negation.
@@ -53,15 +52,15 @@ fn three_literals(
     p_holds: bool,
     q: &Formula,
     q_holds: bool,
-) -> Result<FormulaList, Starved>
-    ensures { IfOk result (λ r. clause r ≡ literal_of a_holds (formula a.now) ∷ literal_of p_holds (formula p.now) ∷ literal_of q_holds (formula q.now) ∷ []) }
+) -> Result<FormulaList, LineFault>
+    ensures { Judges clause (yields (literal_of a_holds (formula a.now) ∷ literal_of p_holds (formula p.now) ∷ literal_of q_holds (formula q.now) ∷ [])) result }
 {
-    clause_of_three(
+    Ok(clause_of_three(
         alloc,
         literal(alloc, a, a_holds)?,
         literal(alloc, p, p_holds)?,
         literal(alloc, q, q_holds)?,
-    )
+    )?)
 }
 
 /// Hypothesis `k`, or the negated conclusion where `k` is their number. `NotAllowed` where it is greater.
@@ -72,9 +71,9 @@ pub fn hypothesis(alloc: Global, goal: &Goal, k: u32) -> Result<FormulaList, Lin
     let hypotheses = goal.hypotheses.as_slice();
     let k = k as usize;
     if k < hypotheses.len() {
-        Ok(one_literal(alloc, &hypotheses[k], true)?)
+        one_literal(alloc, &hypotheses[k], true)
     } else if k == hypotheses.len() {
-        Ok(one_literal(alloc, &goal.conclusion, false)?)
+        one_literal(alloc, &goal.conclusion, false)
     } else {
         Err(LineFault::NotAllowed)
     }
@@ -91,9 +90,9 @@ fn opened_conjunction(
     ensures { Judges clause (part_of (opened_and (formula a.now) (formula p.now) (formula q.now)) part) result }
 {
     match part {
-        0 => Ok(two_literals(alloc, a, false, p, true)?),
-        1 => Ok(two_literals(alloc, a, false, q, true)?),
-        2 => Ok(three_literals(alloc, a, true, p, false, q, false)?),
+        0 => two_literals(alloc, a, false, p, true),
+        1 => two_literals(alloc, a, false, q, true),
+        2 => three_literals(alloc, a, true, p, false, q, false),
         _ => Err(LineFault::NotAllowed),
     }
 }
@@ -109,9 +108,9 @@ fn opened_disjunction(
     ensures { Judges clause (part_of (opened_or (formula a.now) (formula p.now) (formula q.now)) part) result }
 {
     match part {
-        0 => Ok(two_literals(alloc, a, true, p, false)?),
-        1 => Ok(two_literals(alloc, a, true, q, false)?),
-        2 => Ok(three_literals(alloc, a, false, p, true, q, true)?),
+        0 => two_literals(alloc, a, true, p, false),
+        1 => two_literals(alloc, a, true, q, false),
+        2 => three_literals(alloc, a, false, p, true, q, true),
         _ => Err(LineFault::NotAllowed),
     }
 }
@@ -127,10 +126,10 @@ fn opened_equivalence(
     ensures { Judges clause (part_of (opened_iff (formula a.now) (formula p.now) (formula q.now)) part) result }
 {
     match part {
-        0 => Ok(three_literals(alloc, a, false, p, false, q, true)?),
-        1 => Ok(three_literals(alloc, a, false, p, true, q, false)?),
-        2 => Ok(three_literals(alloc, a, true, p, true, q, true)?),
-        3 => Ok(three_literals(alloc, a, true, p, false, q, false)?),
+        0 => three_literals(alloc, a, false, p, false, q, true),
+        1 => three_literals(alloc, a, false, p, true, q, false),
+        2 => three_literals(alloc, a, true, p, true, q, true),
+        3 => three_literals(alloc, a, true, p, false, q, false),
         _ => Err(LineFault::NotAllowed),
     }
 }
@@ -145,8 +144,8 @@ fn opened_truth(
     ensures { Judges clause (part_of (opened_bit (formula a.now) (formula p.now)) part) result }
 {
     match part {
-        0 => Ok(two_literals(alloc, a, false, p, true)?),
-        1 => Ok(two_literals(alloc, a, true, p, false)?),
+        0 => two_literals(alloc, a, false, p, true),
+        1 => two_literals(alloc, a, true, p, false),
         _ => Err(LineFault::NotAllowed),
     }
 }
@@ -176,11 +175,11 @@ fn side(
     c: &Formula,
     c_holds: bool,
     a: &Term,
-) -> Result<FormulaList, Starved>
-    ensures { IfOk result (λ r. clause r ≡ literal_of c_holds (formula c.now) ∷ equals_at (sort of.now) (term t.now) (term a.now) ∷ []) }
+) -> Result<FormulaList, LineFault>
+    ensures { Judges clause (yields (literal_of c_holds (formula c.now) ∷ equals_at (sort of.now) (term t.now) (term a.now) ∷ [])) result }
 {
     let is = equals(alloc, of, boxed(alloc, t)?, boxed(alloc, a)?)?;
-    clause_of_two(alloc, literal(alloc, c, c_holds)?, is)
+    Ok(clause_of_two(alloc, literal(alloc, c, c_holds)?, is)?)
 }
 
 /// What a choice of this sort is on its side 0 or 1. `NotAllowed` at another term or side.
@@ -190,8 +189,8 @@ pub fn sides(alloc: Global, of: &Sort, t: &Term, side_at: u32) -> Result<Formula
 {
     match t {
         Term::Ite(c, a, b) => match side_at {
-            0 => Ok(side(alloc, of, t, c.get(), false, a.get())?),
-            1 => Ok(side(alloc, of, t, c.get(), true, b.get())?),
+            0 => side(alloc, of, t, c.get(), false, a.get()),
+            1 => side(alloc, of, t, c.get(), true, b.get()),
             _ => Err(LineFault::NotAllowed),
         },
         _ => Err(LineFault::NotAllowed),
@@ -206,13 +205,20 @@ fn less(alloc: Global, a: &Term, b: &Term) -> Result<Boxed<Formula>, Starved>
     at_most(alloc, more, boxed(alloc, b)?)
 }
 
+/// `(= a b)`.
+fn same(alloc: Global, a: &Term, b: &Term) -> Result<Boxed<Formula>, Starved>
+    ensures { IfOk result (λ r. formula r ≡ op2 eq (term a.now) (term b.now)) }
+{
+    equal(alloc, boxed(alloc, a)?, boxed(alloc, b)?)
+}
+
 /// Of two numbers, that they are equal or one is less.
 pub fn compared(alloc: Global, a: &Term, b: &Term) -> Result<FormulaList, Starved>
     ensures { IfOk result (λ r. clause r ≡ compared_by (term a.now) (term b.now)) }
 {
     clause_of_three(
         alloc,
-        equal(alloc, boxed(alloc, a)?, boxed(alloc, b)?)?,
+        same(alloc, a, b)?,
         less(alloc, a, b)?,
         less(alloc, b, a)?,
     )

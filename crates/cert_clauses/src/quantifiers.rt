@@ -5,22 +5,36 @@ ghost use Rattle.logic_terms.specs.Node.{le, neg, op1, op2, sym};
 ghost use Rattle.logic_terms.specs.Binding.{negated, put};
 ghost use Rattle.logic_terms.specs.View.{formula, term};
 ghost use Rattle.cert_rules.specs.Quantifiers.{bounded as bounded_by, instance_of as instance_by, witness_of as witness_by};
+ghost use Rattle.cert_rules.specs.Judged.{yields};
 ghost use Rattle.cert_rules.specs.Judges.{Judges, clause};
 
 use cert_rules::{
-    at_most, both, boxed, boxed_formula, clause_of_four, clause_of_two, negation, not_at_most,
-    symbol,
+    LineFault, at_most, both, boxed, boxed_formula, clause_of_four, clause_of_two, negation,
+    not_at_most, symbol,
 };
-use cert_rules::LineFault;
 use logic_terms::{Formula, FormulaList, Starved, Term, put_in};
 use sqlite_items::Boxed;
 use std::alloc::Global;
+
+/// `(<= a b)`.
+fn up_to(alloc: Global, a: &Term, b: &Term) -> Result<Boxed<Formula>, Starved>
+    ensures { IfOk result (λ r. formula r ≡ op2 le (term a.now) (term b.now)) }
+{
+    at_most(alloc, boxed(alloc, a)?, boxed(alloc, b)?)
+}
+
+/// `(not (<= a b))`.
+fn past(alloc: Global, a: &Term, b: &Term) -> Result<Boxed<Formula>, Starved>
+    ensures { IfOk result (λ r. formula r ≡ op1 neg (op2 le (term a.now) (term b.now))) }
+{
+    not_at_most(alloc, boxed(alloc, a)?, boxed(alloc, b)?)
+}
 
 /// `p` at the symbol or term `t`.
 fn body_at(alloc: Global, p: &Formula, t: &Term) -> Result<Boxed<Formula>, Starved>
     ensures { IfOk result (λ r. formula r ≡ put (term t.now) 0 (formula p.now)) }
 {
-    Ok(Boxed::new(alloc, put_in(alloc, p, t)?)?)
+    Boxed::new(alloc, put_in(alloc, p, t)?)
 }
 
 /// What `q`, which says `p` of all numbers from `l` to `h`, says of `t`.
@@ -31,16 +45,16 @@ fn instance_of_all(
     h: &Term,
     p: &Formula,
     t: &Term,
-) -> Result<FormulaList, Starved>
-    ensures { IfOk result (λ r. clause r ≡ negated (formula q.now) ∷ op1 neg (op2 le (term l.now) (term t.now)) ∷ op1 neg (op2 le (term t.now) (term h.now)) ∷ put (term t.now) 0 (formula p.now) ∷ []) }
+) -> Result<FormulaList, LineFault>
+    ensures { Judges clause (yields (negated (formula q.now) ∷ op1 neg (op2 le (term l.now) (term t.now)) ∷ op1 neg (op2 le (term t.now) (term h.now)) ∷ put (term t.now) 0 (formula p.now) ∷ [])) result }
 {
-    clause_of_four(
+    Ok(clause_of_four(
         alloc,
         negation(alloc, q)?,
-        not_at_most(alloc, boxed(alloc, l)?, boxed(alloc, t)?)?,
-        not_at_most(alloc, boxed(alloc, t)?, boxed(alloc, h)?)?,
+        past(alloc, l, t)?,
+        past(alloc, t, h)?,
         body_at(alloc, p, t)?,
-    )
+    )?)
 }
 
 /// `(not p)`, or `p` without its `not`, at the symbol or term `t`.
@@ -58,16 +72,16 @@ fn instance_of_any(
     h: &Term,
     p: &Formula,
     t: &Term,
-) -> Result<FormulaList, Starved>
-    ensures { IfOk result (λ r. clause r ≡ formula q.now ∷ op1 neg (op2 le (term l.now) (term t.now)) ∷ op1 neg (op2 le (term t.now) (term h.now)) ∷ negated (put (term t.now) 0 (formula p.now)) ∷ []) }
+) -> Result<FormulaList, LineFault>
+    ensures { Judges clause (yields (formula q.now ∷ op1 neg (op2 le (term l.now) (term t.now)) ∷ op1 neg (op2 le (term t.now) (term h.now)) ∷ negated (put (term t.now) 0 (formula p.now)) ∷ [])) result }
 {
-    clause_of_four(
+    Ok(clause_of_four(
         alloc,
         boxed_formula(alloc, q)?,
-        not_at_most(alloc, boxed(alloc, l)?, boxed(alloc, t)?)?,
-        not_at_most(alloc, boxed(alloc, t)?, boxed(alloc, h)?)?,
+        past(alloc, l, t)?,
+        past(alloc, t, h)?,
         negated_at(alloc, p, t)?,
-    )
+    )?)
 }
 
 /// What a quantifier says of its body at `t`, within the bounds. `NotAllowed` at another formula.
@@ -75,8 +89,8 @@ pub fn instance_of(alloc: Global, t: &Term, q: &Formula) -> Result<FormulaList, 
     ensures { Judges clause (instance_by (term t.now) (formula q.now)) result }
 {
     match q {
-        Formula::All(l, h, p) => Ok(instance_of_all(alloc, q, l.get(), h.get(), p.get(), t)?),
-        Formula::Any(l, h, p) => Ok(instance_of_any(alloc, q, l.get(), h.get(), p.get(), t)?),
+        Formula::All(l, h, p) => instance_of_all(alloc, q, l.get(), h.get(), p.get(), t),
+        Formula::Any(l, h, p) => instance_of_any(alloc, q, l.get(), h.get(), p.get(), t),
         _ => Err(LineFault::NotAllowed),
     }
 }
@@ -91,13 +105,8 @@ fn bounded(
 ) -> Result<Boxed<Formula>, Starved>
     ensures { IfOk result (λ r. formula r ≡ bounded_by (term l.now) (term s.now) (term h.now) (formula p)) }
 {
-    let below = at_most(alloc, boxed(alloc, s)?, boxed(alloc, h)?)?;
-    let rest = both(alloc, below, p)?;
-    both(
-        alloc,
-        at_most(alloc, boxed(alloc, l)?, boxed(alloc, s)?)?,
-        rest,
-    )
+    let rest = both(alloc, up_to(alloc, s, h)?, p)?;
+    both(alloc, up_to(alloc, l, s)?, rest)
 }
 
 /// What `q`, which says `p` of some number from `l` to `h`, says of one that `s` stands for.
@@ -108,11 +117,11 @@ fn witness_of_any(
     h: &Term,
     p: &Formula,
     s: &Term,
-) -> Result<FormulaList, Starved>
-    ensures { IfOk result (λ r. clause r ≡ negated (formula q.now) ∷ bounded_by (term l.now) (term s.now) (term h.now) (put (term s.now) 0 (formula p.now)) ∷ []) }
+) -> Result<FormulaList, LineFault>
+    ensures { Judges clause (yields (negated (formula q.now) ∷ bounded_by (term l.now) (term s.now) (term h.now) (put (term s.now) 0 (formula p.now)) ∷ [])) result }
 {
     let there = bounded(alloc, l, s, h, body_at(alloc, p, s)?)?;
-    clause_of_two(alloc, negation(alloc, q)?, there)
+    Ok(clause_of_two(alloc, negation(alloc, q)?, there)?)
 }
 
 /// What `q`, which says `p` of all numbers from `l` to `h`, says of one that `s` stands for and `p` is false of.
@@ -123,11 +132,11 @@ fn witness_of_all(
     h: &Term,
     p: &Formula,
     s: &Term,
-) -> Result<FormulaList, Starved>
-    ensures { IfOk result (λ r. clause r ≡ formula q.now ∷ bounded_by (term l.now) (term s.now) (term h.now) (negated (put (term s.now) 0 (formula p.now))) ∷ []) }
+) -> Result<FormulaList, LineFault>
+    ensures { Judges clause (yields (formula q.now ∷ bounded_by (term l.now) (term s.now) (term h.now) (negated (put (term s.now) 0 (formula p.now))) ∷ [])) result }
 {
     let there = bounded(alloc, l, s, h, negated_at(alloc, p, s)?)?;
-    clause_of_two(alloc, boxed_formula(alloc, q)?, there)
+    Ok(clause_of_two(alloc, boxed_formula(alloc, q)?, there)?)
 }
 
 /// What a quantifier says of its body, or of the negated body, at the symbol `s` with the number `k`.
@@ -136,8 +145,8 @@ fn witness_at(alloc: Global, k: u32, s: &Term, q: &Formula) -> Result<FormulaLis
     ensures { Judges clause (witness_by k (formula q.now)) result }
 {
     match q {
-        Formula::Any(l, h, p) => Ok(witness_of_any(alloc, q, l.get(), h.get(), p.get(), s)?),
-        Formula::All(l, h, p) => Ok(witness_of_all(alloc, q, l.get(), h.get(), p.get(), s)?),
+        Formula::Any(l, h, p) => witness_of_any(alloc, q, l.get(), h.get(), p.get(), s),
+        Formula::All(l, h, p) => witness_of_all(alloc, q, l.get(), h.get(), p.get(), s),
         _ => Err(LineFault::NotAllowed),
     }
 }

@@ -6,10 +6,10 @@ ghost use Rattle.logic_terms.specs.Sorts.{kinds_in, sort};
 ghost use Rattle.logic_terms.specs.View.{term, terms};
 ghost use Rattle.cert_rules.specs.Clause.{equals as equals_at};
 ghost use Rattle.cert_rules.specs.Compound.{equal_to, field_clause as field_clause_of, field_of, fields_from, node_at, updated_field, whole_record as whole_record_of};
+ghost use Rattle.cert_rules.specs.Judged.{yields};
 ghost use Rattle.cert_rules.specs.Judges.{Judges, clause};
 
-use cert_rules::{boxed, clause_of_one, equal, equals, field, record};
-use cert_rules::LineFault;
+use cert_rules::{LineFault, boxed, clause_of_one, equal, equals, field, record};
 use logic_terms::{FormulaList, Sort, SortList, Starved, Term, TermList};
 use sqlite_items::{Boxed, Items, at};
 use std::alloc::Global;
@@ -43,10 +43,10 @@ fn whole_record(alloc: Global, of: &Sort, t: &Term) -> Result<FormulaList, LineF
 }
 
 /// That `t`, which is of this sort, is `u`.
-fn same_value(alloc: Global, of: &Sort, t: &Term, u: Boxed<Term>) -> Result<FormulaList, Starved>
-    ensures { IfOk result (λ r. clause r ≡ equals_at (sort of.now) (term t.now) (term u) ∷ []) }
+fn same_value(alloc: Global, of: &Sort, t: &Term, u: Boxed<Term>) -> Result<FormulaList, LineFault>
+    ensures { Judges clause (yields (equals_at (sort of.now) (term t.now) (term u) ∷ [])) result }
 {
-    clause_of_one(alloc, equals(alloc, of, boxed(alloc, t)?, u)?)
+    Ok(clause_of_one(alloc, equals(alloc, of, boxed(alloc, t)?, u)?)?)
 }
 
 /// What `t`, field `k` of a record of these fields, is.
@@ -61,7 +61,7 @@ fn made_field(
     ensures { Judges clause (equal_to (sort of.now) (term t.now) (node_at (terms ts.now) k)) result }
 {
     match at(ts.as_slice(), k as usize) {
-        Some(u) => Ok(same_value(alloc, of, t, boxed(alloc, u)?)?),
+        Some(u) => same_value(alloc, of, t, boxed(alloc, u)?),
         None => Err(LineFault::NotAllowed),
     }
 }
@@ -81,12 +81,12 @@ fn changed_field(
 {
     if j == k {
         match part {
-            1 => Ok(same_value(alloc, of, t, boxed(alloc, v)?)?),
+            1 => same_value(alloc, of, t, boxed(alloc, v)?),
             _ => Err(LineFault::NotAllowed),
         }
     } else {
         match part {
-            2 => Ok(same_value(alloc, of, t, field(alloc, j, r)?)?),
+            2 => same_value(alloc, of, t, field(alloc, j, r)?),
             _ => Err(LineFault::NotAllowed),
         }
     }

@@ -4,15 +4,14 @@ ghost use Rattle.std.specs.Prelude.{◌≡◌, ◌∷◌, [], pos, ◌+ℤ◌, �
 ghost use Rattle.logic_terms.specs.Node.{add, arith, eq, le, mul, num, op2};
 ghost use Rattle.logic_terms.specs.Binding.{negated};
 ghost use Rattle.logic_terms.specs.View.{formula, term};
-ghost use Rattle.cert_rules.specs.Judged.{part_of};
+ghost use Rattle.cert_rules.specs.Judged.{part_of, yields};
 ghost use Rattle.cert_rules.specs.Division.{division_facts, is_positive, modulus_of, quotient_of, remainder_of};
 ghost use Rattle.cert_rules.specs.Judges.{Judges, clause};
 
 use cert_rules::{
-    at_most, boxed, clause_of_one, clause_of_two, equal, modulus, not_at_most, number, product,
-    quotient, remainder, sum,
+    LineFault, at_most, boxed, clause_of_one, clause_of_two, equal, modulus, not_at_most, number,
+    product, quotient, remainder, sum,
 };
-use cert_rules::LineFault;
 use logic_terms::{Formula, FormulaList, Starved, Term};
 use sqlite_items::Boxed;
 use std::alloc::Global;
@@ -57,13 +56,13 @@ fn whole_and_rest(alloc: Global, a: &Term, d: i128) -> Result<Boxed<Term>, Starv
 }
 
 /// `(= a (+ (* d (quo a d)) (rem a d)))`.
-fn parts_sum(alloc: Global, a: &Term, d: i128) -> Result<FormulaList, Starved>
-    ensures { IfOk result (λ r. clause r ≡ op2 eq (term a.now) (op2 (arith add) (op2 (arith mul) (num d) (quotient_of (term a.now) d)) (remainder_of (term a.now) d)) ∷ []) }
+fn parts_sum(alloc: Global, a: &Term, d: i128) -> Result<FormulaList, LineFault>
+    ensures { Judges clause (yields (op2 eq (term a.now) (op2 (arith add) (op2 (arith mul) (num d) (quotient_of (term a.now) d)) (remainder_of (term a.now) d)) ∷ [])) result }
 {
-    clause_of_one(
+    Ok(clause_of_one(
         alloc,
         equal(alloc, boxed(alloc, a)?, whole_and_rest(alloc, a, d)?)?,
-    )
+    )?)
 }
 
 /// A literal, unless `(<= 0 a)` is `unless`.
@@ -72,10 +71,10 @@ fn bounded(
     a: &Term,
     unless: bool,
     bound: Boxed<Formula>,
-) -> Result<FormulaList, Starved>
-    ensures { IfOk result (λ r. clause r ≡ (if unless then op2 le (num (pos 0)) (term a.now) else negated (op2 le (num (pos 0)) (term a.now))) ∷ formula bound ∷ []) }
+) -> Result<FormulaList, LineFault>
+    ensures { Judges clause (yields ((if unless then op2 le (num (pos 0)) (term a.now) else negated (op2 le (num (pos 0)) (term a.now))) ∷ formula bound ∷ [])) result }
 {
-    clause_of_two(alloc, at_least_0(alloc, a, unless)?, bound)
+    Ok(clause_of_two(alloc, at_least_0(alloc, a, unless)?, bound)?)
 }
 
 /// `(<= n (rem a d))`, unless `(<= 0 a)` is `unless`.
@@ -85,8 +84,8 @@ fn remainder_from(
     d: i128,
     unless: bool,
     n: i128,
-) -> Result<FormulaList, Starved>
-    ensures { IfOk result (λ r. clause r ≡ (if unless then op2 le (num (pos 0)) (term a.now) else negated (op2 le (num (pos 0)) (term a.now))) ∷ op2 le (num n) (remainder_of (term a.now) d) ∷ []) }
+) -> Result<FormulaList, LineFault>
+    ensures { Judges clause (yields ((if unless then op2 le (num (pos 0)) (term a.now) else negated (op2 le (num (pos 0)) (term a.now))) ∷ op2 le (num n) (remainder_of (term a.now) d) ∷ [])) result }
 {
     let bound = at_most(alloc, number(alloc, n)?, remainder(alloc, a, d)?)?;
     bounded(alloc, a, unless, bound)
@@ -99,30 +98,30 @@ fn remainder_to(
     d: i128,
     unless: bool,
     n: i128,
-) -> Result<FormulaList, Starved>
-    ensures { IfOk result (λ r. clause r ≡ (if unless then op2 le (num (pos 0)) (term a.now) else negated (op2 le (num (pos 0)) (term a.now))) ∷ op2 le (remainder_of (term a.now) d) (num n) ∷ []) }
+) -> Result<FormulaList, LineFault>
+    ensures { Judges clause (yields ((if unless then op2 le (num (pos 0)) (term a.now) else negated (op2 le (num (pos 0)) (term a.now))) ∷ op2 le (remainder_of (term a.now) d) (num n) ∷ [])) result }
 {
     let bound = at_most(alloc, remainder(alloc, a, d)?, number(alloc, n)?)?;
     bounded(alloc, a, unless, bound)
 }
 
 /// `(<= n m)`, alone.
-fn from_number(alloc: Global, m: Boxed<Term>, n: i128) -> Result<FormulaList, Starved>
-    ensures { IfOk result (λ r. clause r ≡ op2 le (num n) (term m) ∷ []) }
+fn from_number(alloc: Global, m: Boxed<Term>, n: i128) -> Result<FormulaList, LineFault>
+    ensures { Judges clause (yields (op2 le (num n) (term m) ∷ [])) result }
 {
-    clause_of_one(alloc, at_most(alloc, number(alloc, n)?, m)?)
+    Ok(clause_of_one(alloc, at_most(alloc, number(alloc, n)?, m)?)?)
 }
 
 /// `(<= m n)`, alone.
-fn to_number(alloc: Global, m: Boxed<Term>, n: i128) -> Result<FormulaList, Starved>
-    ensures { IfOk result (λ r. clause r ≡ op2 le (term m) (num n) ∷ []) }
+fn to_number(alloc: Global, m: Boxed<Term>, n: i128) -> Result<FormulaList, LineFault>
+    ensures { Judges clause (yields (op2 le (term m) (num n) ∷ [])) result }
 {
-    clause_of_one(alloc, at_most(alloc, m, number(alloc, n)?)?)
+    Ok(clause_of_one(alloc, at_most(alloc, m, number(alloc, n)?)?)?)
 }
 
 /// The sign of `(mod a d)`, which is that of `d`.
-fn modulus_sign(alloc: Global, a: &Term, d: i128) -> Result<FormulaList, Starved>
-    ensures { IfOk result (λ r. clause r ≡ (if is_positive (term a.now) d then op2 le (num (pos 0)) (modulus_of (term a.now) d) else op2 le (modulus_of (term a.now) d) (num (pos 0))) ∷ []) }
+fn modulus_sign(alloc: Global, a: &Term, d: i128) -> Result<FormulaList, LineFault>
+    ensures { Judges clause (yields ((if is_positive (term a.now) d then op2 le (num (pos 0)) (modulus_of (term a.now) d) else op2 le (modulus_of (term a.now) d) (num (pos 0))) ∷ [])) result }
 {
     let m = modulus(alloc, a, d)?;
     if d > 0 {
@@ -133,8 +132,8 @@ fn modulus_sign(alloc: Global, a: &Term, d: i128) -> Result<FormulaList, Starved
 }
 
 /// The far bound of `(mod a d)`, which is nearer to 0 than `d`.
-fn modulus_bound(alloc: Global, a: &Term, d: i128) -> Result<FormulaList, Starved>
-    ensures { IfOk result (λ r. clause r ≡ (if is_positive (term a.now) d then op2 le (modulus_of (term a.now) d) (num (d -ℤ pos 1)) else op2 le (num (d +ℤ pos 1)) (modulus_of (term a.now) d)) ∷ []) }
+fn modulus_bound(alloc: Global, a: &Term, d: i128) -> Result<FormulaList, LineFault>
+    ensures { Judges clause (yields ((if is_positive (term a.now) d then op2 le (modulus_of (term a.now) d) (num (d -ℤ pos 1)) else op2 le (num (d +ℤ pos 1)) (modulus_of (term a.now) d)) ∷ [])) result }
 {
     let m = modulus(alloc, a, d)?;
     if d > 0 {
@@ -170,14 +169,14 @@ fn modulus_is_more(alloc: Global, a: &Term, d: i128) -> Result<Boxed<Formula>, S
 }
 
 /// That `(mod a d)` is `(rem a d)`, or more by `d`.
-fn modulus_choice(alloc: Global, a: &Term, d: i128) -> Result<FormulaList, Starved>
-    ensures { IfOk result (λ r. clause r ≡ op2 eq (modulus_of (term a.now) d) (remainder_of (term a.now) d) ∷ op2 eq (modulus_of (term a.now) d) (op2 (arith add) (remainder_of (term a.now) d) (num d)) ∷ []) }
+fn modulus_choice(alloc: Global, a: &Term, d: i128) -> Result<FormulaList, LineFault>
+    ensures { Judges clause (yields (op2 eq (modulus_of (term a.now) d) (remainder_of (term a.now) d) ∷ op2 eq (modulus_of (term a.now) d) (op2 (arith add) (remainder_of (term a.now) d) (num d)) ∷ [])) result }
 {
-    clause_of_two(
+    Ok(clause_of_two(
         alloc,
         modulus_is_remainder(alloc, a, d)?,
         modulus_is_more(alloc, a, d)?,
-    )
+    )?)
 }
 
 /// What `(quo a d)`, `(rem a d)` and `(mod a d)` are, by the number of the part. `NotAllowed` at another part.
@@ -186,14 +185,14 @@ pub fn division_fact(alloc: Global, a: &Term, d: i128, part: u32) -> Result<Form
     ensures { Judges clause (part_of (division_facts (term a.now) d) part) result }
 {
     match part {
-        0 => Ok(parts_sum(alloc, a, d)?),
-        1 => Ok(remainder_from(alloc, a, d, false, 0)?),
-        2 => Ok(remainder_to(alloc, a, d, false, most_remainder(d))?),
-        3 => Ok(remainder_to(alloc, a, d, true, 0)?),
-        4 => Ok(remainder_from(alloc, a, d, true, least_remainder(d))?),
-        5 => Ok(modulus_sign(alloc, a, d)?),
-        6 => Ok(modulus_bound(alloc, a, d)?),
-        7 => Ok(modulus_choice(alloc, a, d)?),
+        0 => parts_sum(alloc, a, d),
+        1 => remainder_from(alloc, a, d, false, 0),
+        2 => remainder_to(alloc, a, d, false, most_remainder(d)),
+        3 => remainder_to(alloc, a, d, true, 0),
+        4 => remainder_from(alloc, a, d, true, least_remainder(d)),
+        5 => modulus_sign(alloc, a, d),
+        6 => modulus_bound(alloc, a, d),
+        7 => modulus_choice(alloc, a, d),
         _ => Err(LineFault::NotAllowed),
     }
 }

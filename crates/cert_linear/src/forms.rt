@@ -11,9 +11,9 @@ ghost use Rattle.cert_rules.specs.Judges.{Judges};
 ghost use Rattle.cert_linear.specs.Here.{here, forms};
 
 use crate::terms::terms_of;
-use cert_rules::LineFault;
+use cert_rules::{LineFault, negation};
 use linear_forms::{FormFault, LinearForm, form_of};
-use logic_terms::{Formula, FormulaList, Goal, TermList, negate};
+use logic_terms::{Formula, FormulaList, Goal, TermList};
 use sqlite_items::Items;
 use std::alloc::Global;
 
@@ -52,8 +52,8 @@ fn forms_of_literal(
 ) -> Result<FormList, LineFault>
     ensures { Judges forms (and_then (terms_at (here goal.now fresh) (negated (formula p.now))) forms_of_terms) result }
 {
-    let negation = negate(alloc, p)?;
-    let terms = terms_of(alloc, goal, fresh, &negation)?;
+    let negation = negation(alloc, p)?;
+    let terms = terms_of(alloc, goal, fresh, negation.get())?;
     forms_of_terms(alloc, &terms)
 }
 

@@ -7,20 +7,25 @@ ghost use Rattle.cert_rules.specs.Linear.{minus, terms_of};
 ghost use Rattle.cert_rules.specs.Judges.{Judges};
 ghost use Rattle.cert_linear.specs.Here.{here};
 
-use cert_rules::LineFault;
+use cert_rules::{LineFault, boxed, number};
+use cert_sorts::is_number;
 use logic_terms::{Formula, Goal, Starved, Term, TermList};
 use sqlite_items::{Boxed, Items};
 use std::alloc::Global;
-use cert_sorts::is_number;
 
 /// `(- a b)`.
-fn minus(alloc: Global, a: &Term, b: &Term) -> Result<Term, Starved>
+fn minus(alloc: Global, a: Boxed<Term>, b: Boxed<Term>) -> Result<Boxed<Term>, Starved>
+    ensures { IfOk result (λ t. term t ≡ minus (term a) (term b)) }
+{
+    Boxed::new(alloc, Term::Sub(a, b))
+}
+
+/// `(- a b)` of copies.
+fn difference(alloc: Global, a: &Term, b: &Term) -> Result<Boxed<Term>, Starved>
     ensures { IfOk result (λ t. term t ≡ minus (term a.now) (term b.now)) }
 {
-    Ok(Term::Sub(
-        Boxed::new(alloc, a.copy(alloc)?)?,
-        Boxed::new(alloc, b.copy(alloc)?)?,
-    ))
+    let a = boxed(alloc, a)?;
+    minus(alloc, a, boxed(alloc, b)?)
 }
 
 /// Of `(<= a b)`: that b - a is at least 0.
@@ -28,7 +33,7 @@ fn at_most(alloc: Global, a: &Term, b: &Term) -> Result<TermList, Starved>
     ensures { IfOk result (λ ts. map term ts ≡ minus (term b.now) (term a.now) ∷ []) }
 {
     let mut terms = Items::new(alloc);
-    terms.push(minus(alloc, b, a)?)?;
+    terms.push(difference(alloc, b, a)?.into_inner())?;
     Ok(terms)
 }
 
@@ -36,9 +41,9 @@ fn at_most(alloc: Global, a: &Term, b: &Term) -> Result<TermList, Starved>
 fn above(alloc: Global, a: &Term, b: &Term) -> Result<TermList, Starved>
     ensures { IfOk result (λ ts. map term ts ≡ minus (minus (term a.now) (term b.now)) (num (pos 1)) ∷ []) }
 {
-    let difference = minus(alloc, a, b)?;
     let mut terms = Items::new(alloc);
-    terms.push(minus(alloc, &difference, &Term::Num(1))?)?;
+    let more = difference(alloc, a, b)?;
+    terms.push(minus(alloc, more, number(alloc, 1)?)?.into_inner())?;
     Ok(terms)
 }
 
@@ -47,8 +52,8 @@ fn equal(alloc: Global, a: &Term, b: &Term) -> Result<TermList, Starved>
     ensures { IfOk result (λ ts. map term ts ≡ minus (term b.now) (term a.now) ∷ minus (term a.now) (term b.now) ∷ []) }
 {
     let mut terms = Items::new(alloc);
-    terms.push(minus(alloc, b, a)?)?;
-    terms.push(minus(alloc, a, b)?)?;
+    terms.push(difference(alloc, b, a)?.into_inner())?;
+    terms.push(difference(alloc, a, b)?.into_inner())?;
     Ok(terms)
 }
 

@@ -3,13 +3,12 @@
 ghost use Rattle.std.specs.Prelude.{◌≡◌, ◌∷◌, [], IfOk};
 ghost use Rattle.logic_terms.specs.Binding.{negated};
 ghost use Rattle.logic_terms.specs.View.{formula, term};
-ghost use Rattle.cert_rules.specs.Judged.{and_then};
+ghost use Rattle.cert_rules.specs.Judged.{and_then, yields};
 ghost use Rattle.cert_rules.specs.Replacing.{directed, replaced, replacement as replacement_of, replacing_clause};
 ghost use Rattle.cert_rules.specs.Judges.{Judges, clause};
 
 use crate::swapping::replace_in;
-use cert_rules::{clause_of_three, negation};
-use cert_rules::LineFault;
+use cert_rules::{LineFault, clause_of_three, negation};
 use logic_terms::{Formula, FormulaList, Starved, Term};
 use sqlite_items::Boxed;
 use std::alloc::Global;
@@ -20,15 +19,15 @@ fn changed_clause(
     equation: &Formula,
     literal: &Formula,
     changed: Boxed<Formula>,
-) -> Result<FormulaList, Starved>
-    ensures { IfOk result (λ r. clause r ≡ negated (formula equation.now) ∷ negated (formula literal.now) ∷ formula changed ∷ []) }
+) -> Result<FormulaList, LineFault>
+    ensures { Judges clause (yields (negated (formula equation.now) ∷ negated (formula literal.now) ∷ formula changed ∷ [])) result }
 {
-    clause_of_three(
+    Ok(clause_of_three(
         alloc,
         negation(alloc, equation)?,
         negation(alloc, literal)?,
         changed,
-    )
+    )?)
 }
 
 /// From `x` to `y` at an occurrence in the literal.
@@ -43,7 +42,7 @@ fn replaced_by(
     ensures { Judges clause (replacing_clause (formula equation.now) (formula literal.now) (replaced (term x.now) (term y.now) (formula literal.now) occurrence)) result }
 {
     match replace_in(alloc, x, y, literal, occurrence)? {
-        Some(changed) => Ok(changed_clause(alloc, equation, literal, changed)?),
+        Some(changed) => changed_clause(alloc, equation, literal, changed),
         None => Err(LineFault::NotAllowed),
     }
 }

@@ -6,7 +6,10 @@ ghost use Rattle.logic_terms.specs.View.{formula, term, terms};
 ghost use Rattle.cert_rules.specs.Replacing.{replaced};
 ghost use Rattle.cert_replacing.specs.Swapping.{Replaces, met as met_by, swap, swap_among, swap_parts};
 
-use logic_terms::{Formula, Starved, Term, TermList, same_term};
+use logic_terms::{
+    Formula, FormulaParts, Starved, Term, TermList, TermParts, binary_term, compared,
+    formula_parts, joined, list_term, quantified, same_term, term_parts, ternary_term, unary_term,
+};
 use sqlite_items::{Boxed, Items};
 use std::alloc::Global;
 
@@ -43,7 +46,7 @@ fn met(
 fn push_term(list: &mut TermList, t: Term) -> Result<(), Starved>
     ensures { OnOk result (list.new ≡ list.old ++ t ∷ []) }
 {
-    Ok(list.push(t)?)
+    list.push(t)
 }
 
 #[cycle(swapping)]
@@ -51,14 +54,14 @@ fn push_term(list: &mut TermList, t: Term) -> Result<(), Starved>
 fn swap_boxed(
     alloc: Global,
     change: &Change,
-    t: &Boxed<Term>,
+    t: &Term,
     left: &mut Option<u32>,
 ) -> Result<Boxed<Term>, Starved>
     ensures part { IfOk result (λ r. term r ≡ (swap (term change.now.from.now) (term change.now.to.now) (term t.now) left.old).0) }
     ensures left { IfOk result (λ r. left.new ≡ (swap (term change.now.from.now) (term change.now.to.now) (term t.now) left.old).1) }
 {
-    let new = swap_term(alloc, change, t.get(), left)?;
-    Ok(Boxed::new(alloc, new)?)
+    let new = swap_term(alloc, change, t, left)?;
+    Boxed::new(alloc, new)
 }
 
 #[cycle(swapping)]
@@ -66,14 +69,14 @@ fn swap_boxed(
 fn swap_boxed_formula(
     alloc: Global,
     change: &Change,
-    p: &Boxed<Formula>,
+    p: &Formula,
     left: &mut Option<u32>,
 ) -> Result<Boxed<Formula>, Starved>
     ensures part { IfOk result (λ r. formula r ≡ (swap (term change.now.from.now) (term change.now.to.now) (formula p.now) left.old).0) }
     ensures left { IfOk result (λ r. left.new ≡ (swap (term change.now.from.now) (term change.now.to.now) (formula p.now) left.old).1) }
 {
-    let new = swap_formula(alloc, change, p.get(), left)?;
-    Ok(Boxed::new(alloc, new)?)
+    let new = swap_formula(alloc, change, p, left)?;
+    Boxed::new(alloc, new)
 }
 
 #[cycle(swapping)]
@@ -107,96 +110,38 @@ fn swap_in_term(
     ensures part { IfOk result (λ r. term r ≡ (swap_parts (term change.now.from.now) (term change.now.to.now) (term t.now) left.old).0) }
     ensures left { IfOk result (λ r. left.new ≡ (swap_parts (term change.now.from.now) (term change.now.to.now) (term t.now) left.old).1) }
 {
-    match t {
-        Term::Num(n) => Ok(Term::Num(*n)),
-        Term::Sym(k) => Ok(Term::Sym(*k)),
-        Term::Bound(k) => Ok(Term::Bound(*k)),
-        Term::Add(a, b) => {
-            let a = swap_boxed(alloc, change, a, left)?;
-            let b = swap_boxed(alloc, change, b, left)?;
-            Ok(Term::Add(a, b))
-        }
-        Term::Sub(a, b) => {
-            let a = swap_boxed(alloc, change, a, left)?;
-            let b = swap_boxed(alloc, change, b, left)?;
-            Ok(Term::Sub(a, b))
-        }
-        Term::Mul(a, b) => {
-            let a = swap_boxed(alloc, change, a, left)?;
-            let b = swap_boxed(alloc, change, b, left)?;
-            Ok(Term::Mul(a, b))
-        }
-        Term::Quo(a, b) => {
-            let a = swap_boxed(alloc, change, a, left)?;
-            let b = swap_boxed(alloc, change, b, left)?;
-            Ok(Term::Quo(a, b))
-        }
-        Term::Rem(a, b) => {
-            let a = swap_boxed(alloc, change, a, left)?;
-            let b = swap_boxed(alloc, change, b, left)?;
-            Ok(Term::Rem(a, b))
-        }
-        Term::Mod(a, b) => {
-            let a = swap_boxed(alloc, change, a, left)?;
-            let b = swap_boxed(alloc, change, b, left)?;
-            Ok(Term::Mod(a, b))
-        }
-        Term::Pow(a, b) => {
-            let a = swap_boxed(alloc, change, a, left)?;
-            let b = swap_boxed(alloc, change, b, left)?;
-            Ok(Term::Pow(a, b))
-        }
-        Term::Bit(p) => {
+    match term_parts(t) {
+        TermParts::Number(n) => Ok(Term::Num(n)),
+        TermParts::Symbol(k) => Ok(Term::Sym(k)),
+        TermParts::Bound(k) => Ok(Term::Bound(k)),
+        TermParts::Bit(p) => {
             let p = swap_boxed_formula(alloc, change, p, left)?;
             Ok(Term::Bit(p))
         }
-        Term::Ite(p, a, b) => {
+        TermParts::Choice(p, a, b) => {
             let p = swap_boxed_formula(alloc, change, p, left)?;
             let a = swap_boxed(alloc, change, a, left)?;
             let b = swap_boxed(alloc, change, b, left)?;
             Ok(Term::Ite(p, a, b))
         }
-        Term::Sel(a, i) => {
+        TermParts::One(operator, a) => {
             let a = swap_boxed(alloc, change, a, left)?;
-            let i = swap_boxed(alloc, change, i, left)?;
-            Ok(Term::Sel(a, i))
+            Ok(unary_term(operator, a))
         }
-        Term::Sto(a, i, v) => {
+        TermParts::Two(operator, a, b) => {
             let a = swap_boxed(alloc, change, a, left)?;
-            let i = swap_boxed(alloc, change, i, left)?;
-            let v = swap_boxed(alloc, change, v, left)?;
-            Ok(Term::Sto(a, i, v))
+            let b = swap_boxed(alloc, change, b, left)?;
+            Ok(binary_term(operator, a, b))
         }
-        Term::Fst(a) => {
+        TermParts::Three(operator, a, b, c) => {
             let a = swap_boxed(alloc, change, a, left)?;
-            Ok(Term::Fst(a))
+            let b = swap_boxed(alloc, change, b, left)?;
+            let c = swap_boxed(alloc, change, c, left)?;
+            Ok(ternary_term(operator, a, b, c))
         }
-        Term::Lst(a) => {
-            let a = swap_boxed(alloc, change, a, left)?;
-            Ok(Term::Lst(a))
-        }
-        Term::Fill(f, l, v) => {
-            let f = swap_boxed(alloc, change, f, left)?;
-            let l = swap_boxed(alloc, change, l, left)?;
-            let v = swap_boxed(alloc, change, v, left)?;
-            Ok(Term::Fill(f, l, v))
-        }
-        Term::Rec(ts) => {
+        TermParts::List(operator, ts) => {
             let ts = swap_terms(alloc, change, ts, left)?;
-            Ok(Term::Rec(ts))
-        }
-        Term::Fld(k, r) => {
-            let r = swap_boxed(alloc, change, r, left)?;
-            Ok(Term::Fld(*k, r))
-        }
-        Term::Upd(k, r, v) => {
-            let r = swap_boxed(alloc, change, r, left)?;
-            let v = swap_boxed(alloc, change, v, left)?;
-            Ok(Term::Upd(*k, r, v))
-        }
-        Term::Call(k, ts) => {
-            let ts = swap_terms(alloc, change, ts, left)?;
-            Ok(Term::Call(*k, ts))
+            Ok(list_term(operator, ts))
         }
     }
 }
@@ -236,53 +181,32 @@ fn swap_in_formula(
     ensures part { IfOk result (λ r. formula r ≡ (swap_parts (term change.now.from.now) (term change.now.to.now) (formula p.now) left.old).0) }
     ensures left { IfOk result (λ r. left.new ≡ (swap_parts (term change.now.from.now) (term change.now.to.now) (formula p.now) left.old).1) }
 {
-    match p {
-        Formula::True => Ok(Formula::True),
-        Formula::False => Ok(Formula::False),
-        Formula::Tru(t) => {
+    match formula_parts(p) {
+        FormulaParts::Constant(true) => Ok(Formula::True),
+        FormulaParts::Constant(false) => Ok(Formula::False),
+        FormulaParts::Truth(t) => {
             let t = swap_boxed(alloc, change, t, left)?;
             Ok(Formula::Tru(t))
         }
-        Formula::Le(a, b) => {
+        FormulaParts::Compared(operator, a, b) => {
             let a = swap_boxed(alloc, change, a, left)?;
             let b = swap_boxed(alloc, change, b, left)?;
-            Ok(Formula::Le(a, b))
+            Ok(compared(operator, a, b))
         }
-        Formula::Eq(a, b) => {
-            let a = swap_boxed(alloc, change, a, left)?;
-            let b = swap_boxed(alloc, change, b, left)?;
-            Ok(Formula::Eq(a, b))
-        }
-        Formula::Not(q) => {
+        FormulaParts::Not(q) => {
             let q = swap_boxed_formula(alloc, change, q, left)?;
             Ok(Formula::Not(q))
         }
-        Formula::And(q, r) => {
+        FormulaParts::Joined(operator, q, r) => {
             let q = swap_boxed_formula(alloc, change, q, left)?;
             let r = swap_boxed_formula(alloc, change, r, left)?;
-            Ok(Formula::And(q, r))
+            Ok(joined(operator, q, r))
         }
-        Formula::Or(q, r) => {
-            let q = swap_boxed_formula(alloc, change, q, left)?;
-            let r = swap_boxed_formula(alloc, change, r, left)?;
-            Ok(Formula::Or(q, r))
-        }
-        Formula::Iff(q, r) => {
-            let q = swap_boxed_formula(alloc, change, q, left)?;
-            let r = swap_boxed_formula(alloc, change, r, left)?;
-            Ok(Formula::Iff(q, r))
-        }
-        Formula::All(l, h, q) => {
+        FormulaParts::Quantified(quantifier, l, h, q) => {
             let l = swap_boxed(alloc, change, l, left)?;
             let h = swap_boxed(alloc, change, h, left)?;
             let q = swap_boxed_formula(alloc, change, q, left)?;
-            Ok(Formula::All(l, h, q))
-        }
-        Formula::Any(l, h, q) => {
-            let l = swap_boxed(alloc, change, l, left)?;
-            let h = swap_boxed(alloc, change, h, left)?;
-            let q = swap_boxed_formula(alloc, change, q, left)?;
-            Ok(Formula::Any(l, h, q))
+            Ok(quantified(quantifier, l, h, q))
         }
     }
 }

@@ -19,8 +19,8 @@ use Rattle.cert_rules.specs.Context.{Context, signature, next_symbol, kind_in}
 use Rattle.cert_rules.specs.Compound.{stored_facts, filled_fact, array_clause, extensional, node_at, equal_to, fields_from, whole_record, updated_field, field_of, field_clause}
 use Rattle.cert_rules.specs.Rules.{judge, of_arrays}
 use Rattle.cert_rules.proofs.Names.{names_below, all_names_below}
-use Rattle.cert_rules.proofs.Clauses.{IsSound, part_sound, when_sound}
-use Rattle.cert_rules.proofs.Equals.{equals-holds, equals-below}
+use Rattle.cert_rules.proofs.NumberedClauses.{IsSound, part_sound, when_sound}
+use Rattle.cert_rules.proofs.EqualTerms.{equals-holds, equals-below}
 use Rattle.cert_rules.proofs.Sorting.{kind_below, kind_closed}
 use Rattle.cert_rules.proofs.Opening.{of_kind-sound}
 use Rattle.cert_rules.proofs.Premises.{unless, or_else, last_holds, last_below, only-sound}

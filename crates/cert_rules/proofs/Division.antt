@@ -20,7 +20,7 @@ use Rattle.cert_rules.specs.Context.{Context, signature, next_symbol, is_number}
 use Rattle.cert_rules.specs.Division.{quotient_of, remainder_of, modulus_of, width, is_positive, dividend_at_least_0, division_facts}
 use Rattle.cert_rules.specs.Rules.{judge}
 use Rattle.cert_rules.proofs.Names.{names_below}
-use Rattle.cert_rules.proofs.Clauses.{IsSound, AllBelow, part_sound, when_sound}
+use Rattle.cert_rules.proofs.NumberedClauses.{IsSound, AllBelow, part_sound, when_sound}
 use Rattle.cert_rules.proofs.Sorting.{number_kind, number_below}
 use Rattle.cert_rules.proofs.Premises.{unless, or_else, last_holds, last_below}
 use Rattle.cert_rules.proofs.Values.{same_value-from, le_is, le_holds}

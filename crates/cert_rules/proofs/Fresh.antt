@@ -10,7 +10,7 @@ use Rattle.logic_terms.specs.Binding.{put, puts}
 use Rattle.logic_terms.proofs.Substitution.{over-same}
 use Rattle.cert_rules.specs.Clause.{clause_holds, AllClausesHold}
 use Rattle.cert_rules.proofs.Names.{names_below, all_names_below, clause_below, with_symbol}
-use Rattle.cert_rules.proofs.Clauses.{AllBelow}
+use Rattle.cert_rules.proofs.NumberedClauses.{AllBelow}
 
 other : (k d : ℕ) (u v : Value) → nat_lt k d ≡ true → (if k == d then v else u) ≡ u
 other k d u v h = let e : (k == d) ≡ false = grind (arith, h) in rw e refl

@@ -1,7 +1,7 @@
 pub mod Names
-pub mod Clauses
+pub mod NumberedClauses
 pub mod Opposite
-pub mod Equals
+pub mod EqualTerms
 pub mod Sorting
 pub mod Premises
 pub mod Values

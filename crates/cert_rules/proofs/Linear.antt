@@ -20,7 +20,7 @@ use Rattle.cert_rules.specs.Context.{Context, signature, next_symbol, is_number,
 use Rattle.cert_rules.specs.Clause.{clause_holds}
 use Rattle.cert_rules.specs.Linear.{minus, terms_of, forms_of_terms, forms_of, form_at, stepped, run_steps, has_no_monomials, is_negative_constant, some_is_negative, last_is_negative, refuted, linear_clause}
 use Rattle.cert_rules.specs.Rules.{judge}
-use Rattle.cert_rules.proofs.Clauses.{IsSound, when_sound}
+use Rattle.cert_rules.proofs.NumberedClauses.{IsSound, when_sound}
 use Rattle.cert_rules.proofs.Opposite.{holds-negated}
 use Rattle.cert_rules.proofs.Values.{same_value-is}
 use Rattle.cert_rules.proofs.Sorting.{formulas_below}

@@ -21,10 +21,10 @@ use Rattle.cert_rules.specs.Clause.{AllClausesHold, equals}
 use Rattle.cert_rules.specs.Opening.{hypothesis, opened, sides, one_more, compared, at_least_0, multiplied, computed}
 use Rattle.cert_rules.specs.Rules.{judge, of_kind}
 use Rattle.cert_rules.proofs.Names.{names_below, clause_below}
-use Rattle.cert_rules.proofs.Clauses.{IsSound, AllBelow, part_sound, when_sound}
+use Rattle.cert_rules.proofs.NumberedClauses.{IsSound, AllBelow, part_sound, when_sound}
 use Rattle.cert_rules.proofs.Opposite.{holds-negated, negated_below}
 use Rattle.cert_rules.proofs.Premises.{unless_negated, or_else, last_holds, last_below}
-use Rattle.cert_rules.proofs.Equals.{equals-holds, equals-below}
+use Rattle.cert_rules.proofs.EqualTerms.{equals-holds, equals-below}
 use Rattle.cert_rules.proofs.Sorting.{kind_below, formula_below, number_below, number_kind}
 
 -- ---- clauses of a few literals

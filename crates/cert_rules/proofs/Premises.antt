@@ -7,7 +7,7 @@ use Rattle.logic_terms.specs.Binding.{negated}
 use Rattle.cert_rules.specs.Judged.{yields, refused, only}
 use Rattle.cert_rules.specs.Clause.{clause_holds}
 use Rattle.cert_rules.proofs.Names.{clause_below}
-use Rattle.cert_rules.proofs.Clauses.{IsSound}
+use Rattle.cert_rules.proofs.NumberedClauses.{IsSound}
 use Rattle.cert_rules.proofs.Opposite.{holds-negated}
 
 -- the rest holds where the first literal does not

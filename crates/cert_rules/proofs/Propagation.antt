@@ -14,7 +14,7 @@ use Rattle.cert_rules.specs.Context.{Context, signature, next_symbol, all_formul
 use Rattle.cert_rules.specs.Clause.{clause_holds, AllClausesHold}
 use Rattle.cert_rules.specs.Propagation.{among, is_false, not_false, clause_at, after_hint, left_of, propagates, follows}
 use Rattle.cert_rules.specs.Rules.{judge}
-use Rattle.cert_rules.proofs.Clauses.{IsSound, when_sound}
+use Rattle.cert_rules.proofs.NumberedClauses.{IsSound, when_sound}
 use Rattle.cert_rules.proofs.Opposite.{holds-negated}
 use Rattle.cert_rules.proofs.Sorting.{formulas_below}
 

@@ -18,7 +18,7 @@ use Rattle.cert_rules.specs.Clause.{clause_holds}
 use Rattle.cert_rules.specs.Quantifiers.{instance_of, bounded, witness_of}
 use Rattle.cert_rules.specs.Rules.{judge}
 use Rattle.cert_rules.proofs.Names.{names_below, clause_below, with_symbol}
-use Rattle.cert_rules.proofs.Clauses.{IsSound, when_sound}
+use Rattle.cert_rules.proofs.NumberedClauses.{IsSound, when_sound}
 use Rattle.cert_rules.proofs.Opposite.{holds-negated, negated_below}
 use Rattle.cert_rules.proofs.Premises.{unless_negated, or_else, last_holds}
 use Rattle.cert_rules.proofs.Opening.{three_below}

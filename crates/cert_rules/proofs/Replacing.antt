@@ -17,7 +17,7 @@ use Rattle.cert_rules.specs.Context.{Context, signature, next_symbol, kind_in, i
 use Rattle.cert_rules.specs.Replacing.{Replaced, done, passed, on_in, here, replaced, replaced_among, directed, replacing_clause, replacement}
 use Rattle.cert_rules.specs.Rules.{judge}
 use Rattle.cert_rules.proofs.Names.{names_below, all_names_below}
-use Rattle.cert_rules.proofs.Clauses.{IsSound, when_sound}
+use Rattle.cert_rules.proofs.NumberedClauses.{IsSound, when_sound}
 use Rattle.cert_rules.proofs.Opposite.{negated_below}
 use Rattle.cert_rules.proofs.Sorting.{kind_below, kind_closed, formula_kind}
 use Rattle.cert_rules.proofs.Premises.{unless_negated, last_holds, last_below}

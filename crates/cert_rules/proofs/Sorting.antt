@@ -7,7 +7,8 @@ use Rattle.logic_terms.specs.Value.{Kind, numbers, truths, arrays, records, Kind
 use Rattle.logic_terms.specs.Binding.{is_closed}
 use Rattle.logic_terms.specs.Sorting.{Signature, nth, kind1, kind2, kind3, kindn, on1, on2, on3, onn, and_kind, kind_over, node_kind, node_kinds}
 use Rattle.logic_terms.proofs.SortedClosed.{sorted_closed}
-use Rattle.cert_rules.specs.Context.{Context, new_kinds, signature, next_symbol, kind_in, is_some_numbers, is_some_truths, is_number, is_formula, all_formulas}
+use Rattle.cert_lines.specs.Symbols.{new_kinds, is_some_numbers, is_some_truths}
+use Rattle.cert_rules.specs.Context.{Context, signature, next_symbol, kind_in, is_number, is_formula, all_formulas}
 use Rattle.cert_rules.proofs.Names.{names_below, all_names_below, clause_below}
 
 -- of what has a kind, this is so

@@ -9,12 +9,13 @@ use Rattle.logic_terms.specs.Sorting.{Signature, Problem, nth, HasKind, IsWorldO
 use Rattle.logic_terms.specs.Meaning.{World, holds}
 use Rattle.cert_lines.specs.Line.{Line, given, opening, choice, propagation, linear, trichotomy, instance, witness, replacing, array_fact, extensionality, field_fact, division, product, computing}
 use Rattle.cert_rules.specs.Judged.{Judged, yields, refused, too_wide}
-use Rattle.cert_rules.specs.Context.{Context, start, new_kinds, with_new, signature, next_symbol}
+use Rattle.cert_lines.specs.Symbols.{new_kinds, with_new}
+use Rattle.cert_rules.specs.Context.{Context, start, signature, next_symbol}
 use Rattle.cert_rules.specs.Clause.{clause_holds, AllClausesHold}
 use Rattle.cert_rules.specs.Rules.{judge}
 use Rattle.cert_rules.specs.Checking.{Answer, accepted, no_end, new_symbols, with_line, ends_empty, answer_after, answer_from, CertificatesAreSound}
 use Rattle.cert_rules.proofs.Names.{names_below, clause_below, with_symbol}
-use Rattle.cert_rules.proofs.Clauses.{IsSound, AllBelow}
+use Rattle.cert_rules.proofs.NumberedClauses.{IsSound, AllBelow}
 use Rattle.cert_rules.proofs.Sorting.{names_known, kinds-length}
 use Rattle.cert_rules.proofs.Fresh.{holds-fresh, all-fresh, clauses-fresh, below-more, clause_below-more, clauses_below-more}
 use Rattle.cert_rules.proofs.Opening.{hypothesis-sound, opening-sound, choice-sound, trichotomy-sound, product-sound, computing-sound}

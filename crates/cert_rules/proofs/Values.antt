@@ -12,7 +12,7 @@ use Rattle.logic_terms.proofs.Items.{item_other, item_outside, has_item_stored, 
 use Rattle.logic_terms.proofs.SameNodes.{same_int-is, same_bool-is}
 use Rattle.logic_terms.proofs.Sorted.{same_kind-is, meaning-has}
 use Rattle.cert_rules.specs.Clause.{equals}
-use Rattle.cert_rules.proofs.Equals.{same_value-refl}
+use Rattle.cert_rules.proofs.EqualTerms.{same_value-refl}
 
 -- a closed term has a value of its kind
 pub value_has : (s : Signature) (w : World) → IsWorldOf s w → (p : Node) (k : Kind) → node_kind s [] p ≡ Some k → is_of k (meaning w [] p) ≡ true

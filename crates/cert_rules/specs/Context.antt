@@ -1,8 +1,9 @@
 -- What stands before a line: the goal, the new symbols, and the clauses of the earlier lines.
-use Rattle.std.specs.Prelude.{ℕ, zero, suc, Bool, true, false, ◌&&◌, List, [], ◌∷◌, ◌++◌, length, ◌+◌, Option, Some}
+use Rattle.std.specs.Prelude.{ℕ, Bool, true, ◌&&◌, List, [], ◌∷◌, length, ◌+◌, Option}
 use Rattle.logic_terms.specs.Node.{Node}
-use Rattle.logic_terms.specs.Value.{Kind, numbers, truths}
+use Rattle.logic_terms.specs.Value.{Kind}
 use Rattle.logic_terms.specs.Sorting.{Signature, Problem, node_kind}
+use Rattle.cert_lines.specs.Symbols.{with_new, is_some_numbers, is_some_truths}
 
 pub record Context : Type 0 where
   pub goal : Problem
@@ -11,15 +12,6 @@ pub record Context : Type 0 where
 
 abbrev pub start : Problem → Context
 start g = record { goal = g; fresh = 0; earlier = [] }
-
--- n symbols of numbers
-abbrev pub new_kinds : ℕ → List Kind
-new_kinds zero = []
-new_kinds (suc n) = numbers ∷ new_kinds n
-
--- the goal's symbols, then the new ones; the goal's calls
-abbrev pub with_new : Signature → ℕ → Signature
-with_new s n = record { symbols = s.symbols ++ new_kinds n; calls = s.calls }
 
 abbrev pub signature : Context → Signature
 signature c = with_new c.goal.signature c.fresh
@@ -31,14 +23,6 @@ next_symbol c = length c.goal.signature.symbols + c.fresh
 -- the kind of a closed node, None where it is not closed and well sorted
 abbrev pub kind_in : Context → Node → Option Kind
 kind_in c p = node_kind (signature c) [] p
-
-abbrev pub is_some_numbers : Option Kind → Bool
-is_some_numbers (Some numbers) = true
-is_some_numbers _ = false
-
-abbrev pub is_some_truths : Option Kind → Bool
-is_some_truths (Some truths) = true
-is_some_truths _ = false
 
 abbrev pub is_number : Context → Node → Bool
 is_number c t = is_some_numbers (kind_in c t)

@@ -1,7 +1,7 @@
 //! Why a line yields no clause.
 
 use logic_terms::Starved;
-use std::alloc::{AllocError, AllocFailed};
+use std::alloc::AllocFailed;
 
 /// Why a line yields no clause.
 #[derive(Clone, Copy, Debug, PartialEq, Eq)]
@@ -21,17 +21,6 @@ impl From<Starved> for LineFault {
     ghost from_gives = { λ _ e. e ≡ fault.Starved };
 
     fn from(_error: Starved) -> LineFault {
-        LineFault::Starved
-    }
-}
-
-impl From<AllocError> for LineFault {
-    ghost use Rattle.std.specs.Prelude.{◌≡◌};
-    ghost use Rattle.cert_rules.specs.declared.fault.LineFault.TheVariants as fault;
-
-    ghost from_gives = { λ _ e. e ≡ fault.Starved };
-
-    fn from(_error: AllocError) -> LineFault {
         LineFault::Starved
     }
 }

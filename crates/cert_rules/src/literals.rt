@@ -16,14 +16,14 @@ use std::alloc::Global;
 pub fn boxed_formula(alloc: Global, p: &Formula) -> Result<Boxed<Formula>, Starved>
     ensures { IfOk result (λ r. r ≡ p.now) }
 {
-    Ok(Boxed::new(alloc, p.copy(alloc)?)?)
+    Boxed::new(alloc, p.copy(alloc)?)
 }
 
 /// The formula with a `not` before it, or without the one that it has.
 pub fn negation(alloc: Global, p: &Formula) -> Result<Boxed<Formula>, Starved>
     ensures { IfOk result (λ r. formula r ≡ negated (formula p.now)) }
 {
-    Ok(Boxed::new(alloc, negate(alloc, p)?)?)
+    Boxed::new(alloc, negate(alloc, p)?)
 }
 
 /// The formula where it holds, or else its negation.
@@ -41,21 +41,21 @@ pub fn literal(alloc: Global, p: &Formula, holds: bool) -> Result<Boxed<Formula>
 pub fn not(alloc: Global, p: Boxed<Formula>) -> Result<Boxed<Formula>, Starved>
     ensures { IfOk result (λ r. formula r ≡ op1 neg (formula p)) }
 {
-    Ok(Boxed::new(alloc, Formula::Not(p))?)
+    Boxed::new(alloc, Formula::Not(p))
 }
 
 /// `(and p q)`.
 pub fn both(alloc: Global, p: Boxed<Formula>, q: Boxed<Formula>) -> Result<Boxed<Formula>, Starved>
     ensures { IfOk result (λ r. formula r ≡ op2 conj (formula p) (formula q)) }
 {
-    Ok(Boxed::new(alloc, Formula::And(p, q))?)
+    Boxed::new(alloc, Formula::And(p, q))
 }
 
 /// `(<= a b)`.
 pub fn at_most(alloc: Global, a: Boxed<Term>, b: Boxed<Term>) -> Result<Boxed<Formula>, Starved>
     ensures { IfOk result (λ r. formula r ≡ op2 le (term a) (term b)) }
 {
-    Ok(Boxed::new(alloc, Formula::Le(a, b))?)
+    Boxed::new(alloc, Formula::Le(a, b))
 }
 
 /// `(not (<= a b))`.
@@ -69,7 +69,7 @@ pub fn not_at_most(alloc: Global, a: Boxed<Term>, b: Boxed<Term>) -> Result<Boxe
 pub fn equal(alloc: Global, a: Boxed<Term>, b: Boxed<Term>) -> Result<Boxed<Formula>, Starved>
     ensures { IfOk result (λ r. formula r ≡ op2 eq (term a) (term b)) }
 {
-    Ok(Boxed::new(alloc, Formula::Eq(a, b))?)
+    Boxed::new(alloc, Formula::Eq(a, b))
 }
 
 /// `(not (= a b))`.
@@ -83,7 +83,7 @@ pub fn not_equal(alloc: Global, a: Boxed<Term>, b: Boxed<Term>) -> Result<Boxed<
 fn is_true(alloc: Global, a: Boxed<Term>) -> Result<Boxed<Formula>, Starved>
     ensures { IfOk result (λ r. formula r ≡ op1 tru (term a)) }
 {
-    Ok(Boxed::new(alloc, Formula::Tru(a))?)
+    Boxed::new(alloc, Formula::Tru(a))
 }
 
 /// `(iff (tru a) (tru b))`.
@@ -91,7 +91,7 @@ fn same_truth(alloc: Global, a: Boxed<Term>, b: Boxed<Term>) -> Result<Boxed<For
     ensures { IfOk result (λ r. formula r ≡ op2 iff (op1 tru (term a)) (op1 tru (term b))) }
 {
     let p = is_true(alloc, a)?;
-    Ok(Boxed::new(alloc, Formula::Iff(p, is_true(alloc, b)?))?)
+    Boxed::new(alloc, Formula::Iff(p, is_true(alloc, b)?))
 }
 
 /// `(= a b)`, where the terms are of this sort; of truth values it is `(iff (tru a) (tru b))`.

@@ -1,18 +1,10 @@
 -- The kinds of operators' values, where some operands are numbers or truth values, or are not.
-use Rattle.std.proofs.Common.{◌≡◌, refl, sym, ◌∙◌, ap, subst, Bool, true, false, ◌&&◌, ◌⊎◌, inl, inr, List, Option, Some, None, Result, IfOk}
-use Rattle.logic_terms.specs.Node.{Arith, add, sub, mul, quo, rem, mod_by, pow, arith, le, sel, sto, fill, Node, op2}
+use Rattle.std.proofs.Common.{◌≡◌, refl, ◌∙◌, ap, Bool, true, false, ◌&&◌, Option, Some, None}
+use Rattle.logic_terms.specs.Node.{Arith, arith, le, sel, sto, fill}
 use Rattle.logic_terms.specs.Value.{Kind, numbers, truths, arrays, records}
-use Rattle.logic_terms.specs.Sorting.{Signature, node_kind, kind_over, on2, on3}
-use Rattle.logic_terms.specs.View.{term, formula, term_step, formula_step}
-use Rattle.logic_terms.specs.declared.sort.Sort.{Sort}
-use Rattle.logic_terms.specs.declared.syntax.Term.{Term}
-use Rattle.logic_terms.specs.declared.syntax.Formula.{Formula}
-use Rattle.logic_terms.specs.declared.syntax.Term.TheVariants as v
-use Rattle.logic_terms.specs.declared.syntax.Formula.TheOpen.{Term-F}
-use Rattle.logic_terms.specs.declared.syntax.Formula.TheViews.{roll-Term}
-use Rattle.logic_terms.specs.declared.syntax.Formula.TheFolds.{map-Term, fold-roll-Term}
-use Rattle.cert_rules.specs.Context.{is_some_numbers, is_some_truths}
-use Rattle.cert_sorts.specs.Found.{found, numbers_if, truths_if}
+use Rattle.logic_terms.specs.Sorting.{kind_over, on2, on3}
+use Rattle.cert_lines.specs.Symbols.{is_some_numbers, is_some_truths}
+use Rattle.cert_sorts.specs.Found.{numbers_if, truths_if}
 
 pub some_truths : (b : Bool) → is_some_truths (truths_if b) ≡ b
 some_truths true = refl
@@ -20,19 +12,22 @@ some_truths false = refl
 
 -- ---- two numbers
 
-pub arithmetic : (o : Arith) (k j : Option Kind) → numbers_if (is_some_numbers k && is_some_numbers j) ≡ on2 (arith o) k j
-arithmetic o None j = refl
-arithmetic o (Some numbers) None = refl
-arithmetic o (Some numbers) (Some numbers) = refl
-arithmetic o (Some numbers) (Some truths) = refl
-arithmetic o (Some numbers) (Some (arrays k)) = refl
-arithmetic o (Some numbers) (Some (records ks)) = refl
-arithmetic o (Some truths) None = refl
-arithmetic o (Some truths) (Some j) = refl
-arithmetic o (Some (arrays k)) None = refl
-arithmetic o (Some (arrays k)) (Some j) = refl
-arithmetic o (Some (records ks)) None = refl
-arithmetic o (Some (records ks)) (Some j) = refl
+computed : (o : Arith) (k j : Option Kind) → numbers_if (is_some_numbers k && is_some_numbers j) ≡ on2 (arith o) k j
+computed o None j = refl
+computed o (Some numbers) None = refl
+computed o (Some numbers) (Some numbers) = refl
+computed o (Some numbers) (Some truths) = refl
+computed o (Some numbers) (Some (arrays k)) = refl
+computed o (Some numbers) (Some (records ks)) = refl
+computed o (Some truths) None = refl
+computed o (Some truths) (Some j) = refl
+computed o (Some (arrays k)) None = refl
+computed o (Some (arrays k)) (Some j) = refl
+computed o (Some (records ks)) None = refl
+computed o (Some (records ks)) (Some j) = refl
+
+pub arithmetic : (o : Arith) (k j : Option Kind) (x y : Bool) → x ≡ is_some_numbers k → y ≡ is_some_numbers j → numbers_if (x && y) ≡ on2 (arith o) k j
+arithmetic o k j x y h i = ap (λ z. numbers_if (z && y)) h ∙ ap (λ z. numbers_if (is_some_numbers k && z)) i ∙ computed o k j
 
 comparison : (k j : Option Kind) → truths_if (is_some_numbers k && is_some_numbers j) ≡ on2 le k j
 comparison None j = refl
@@ -138,31 +133,3 @@ limits_kind (Some (records fs)) (Some l) (Some k) = refl
 pub limits : (f l k : Option Kind) (x y : Bool) → x ≡ is_some_numbers f → y ≡ is_some_numbers l → on3 fill (numbers_if x) (numbers_if y) k ≡ on3 fill f l k
 limits f l k x y h i =
     ap (λ z. on3 fill (numbers_if z) (numbers_if y) k) h ∙ ap (λ z. on3 fill (numbers_if (is_some_numbers f)) (numbers_if z) k) i ∙ limits_kind f l k
-
--- ---- terms with two operands that are numbers
-
--- a term of this form
-abbrev pub Two : Term → Term → Term → Type 0
-Two t a b =
-    (t ≡ v.Add a b) ⊎ ((t ≡ v.Sub a b) ⊎ ((t ≡ v.Mul a b) ⊎ ((t ≡ v.Quo a b) ⊎ ((t ≡ v.Rem a b) ⊎ ((t ≡ v.Mod a b) ⊎ (t ≡ v.Pow a b))))))
-
-node_of : (t : Term) (y : Term-F Formula Term) → t ≡ roll-Term y → term t ≡ term_step (map-Term Formula Term Node Node formula term y)
-node_of t y e = ap term e ∙ fold-roll-Term Node Node formula_step term_step y
-
-pub two_numbers : {E : Type 0} (s : Signature) (js : List Kind) (t a b : Term) (x y z : Bool) (r : Result (Option Sort) E) → Two t a b → x ≡ is_some_numbers (node_kind s js (term a)) → y ≡ is_some_numbers (node_kind s js (term b)) → z ≡ (x && y) → IfOk r (λ f. found f ≡ numbers_if z) → IfOk r (λ f. found f ≡ node_kind s js (term t))
-two_numbers s js t a b x y z r form h i both ok = go form
-  where
-    is : (o : Arith) → term t ≡ op2 (arith o) (term a) (term b) → IfOk r (λ f. found f ≡ node_kind s js (term t))
-    is o e =
-        subst (λ k. IfOk r (λ f. found f ≡ k))
-        (ap numbers_if both ∙ ap (λ n. numbers_if (n && y)) h ∙ ap (λ n. numbers_if (is_some_numbers (node_kind s js (term a)) && n)) i
-        ∙ arithmetic o (node_kind s js (term a)) (node_kind s js (term b)) ∙ ap (node_kind s js) (sym e)) ok
-
-    go : Two t a b → IfOk r (λ f. found f ≡ node_kind s js (term t))
-    go (inl e) = is add (node_of t (Term-F.Add a b) (e ∙ sym (v.rolls-Add a b)))
-    go (inr (inl e)) = is sub (node_of t (Term-F.Sub a b) (e ∙ sym (v.rolls-Sub a b)))
-    go (inr (inr (inl e))) = is mul (node_of t (Term-F.Mul a b) (e ∙ sym (v.rolls-Mul a b)))
-    go (inr (inr (inr (inl e)))) = is quo (node_of t (Term-F.Quo a b) (e ∙ sym (v.rolls-Quo a b)))
-    go (inr (inr (inr (inr (inl e))))) = is rem (node_of t (Term-F.Rem a b) (e ∙ sym (v.rolls-Rem a b)))
-    go (inr (inr (inr (inr (inr (inl e)))))) = is mod_by (node_of t (Term-F.Mod a b) (e ∙ sym (v.rolls-Mod a b)))
-    go (inr (inr (inr (inr (inr (inr e)))))) = is pow (node_of t (Term-F.Pow a b) (e ∙ sym (v.rolls-Pow a b)))

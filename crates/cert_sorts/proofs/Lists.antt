@@ -8,7 +8,7 @@ use Rattle.logic_terms.specs.Goal.{called_as}
 use Rattle.logic_terms.specs.declared.sort.Sort.{Sort}
 use Rattle.logic_terms.specs.declared.goal.Symbol.{Symbol}
 use Rattle.logic_terms.specs.declared.goal.Call.{Call}
-use Rattle.cert_rules.specs.Context.{new_kinds}
+use Rattle.cert_lines.specs.Symbols.{new_kinds}
 use Rattle.cert_sorts.specs.Found.{found, kinds}
 
 -- ---- symbols and variables

@@ -10,7 +10,7 @@ use Rattle.logic_terms.specs.declared.syntax.Term.{Term}
 use Rattle.logic_terms.specs.declared.syntax.Formula.{Formula}
 use Rattle.logic_terms.specs.declared.sort.Sort.{Sort}
 use Rattle.logic_terms.proofs.Lists.{then_node, terms-push}
-use Rattle.cert_rules.specs.Context.{new_kinds}
+use Rattle.cert_lines.specs.Symbols.{new_kinds}
 use Rattle.cert_sorts.specs.Found.{kinds, truths_if}
 
 abbrev then_kind : Kinds → Kind → Kinds

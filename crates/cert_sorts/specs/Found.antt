@@ -1,12 +1,11 @@
 -- The kinds of sorts that were found.
-use Rattle.std.specs.Prelude.{ℕ, Bool, List, map, Option, Some, None}
-use Rattle.logic_terms.specs.Node.{OpN, fields, call}
+use Rattle.std.specs.Prelude.{Bool, List, map, Option, Some, None}
 use Rattle.logic_terms.specs.Value.{Kind, numbers, truths, Kinds}
 use Rattle.logic_terms.specs.Sorts.{sort, kinds_in}
 use Rattle.logic_terms.specs.Sorting.{Signature, given}
 use Rattle.logic_terms.specs.Goal.{problem}
 use Rattle.logic_terms.specs.declared.sort.Sort.{Sort}
-use Rattle.cert_rules.specs.Context.{with_new}
+use Rattle.cert_lines.specs.Symbols.{with_new}
 use Rattle.cert_sorts.specs.declared.scope.Scope.{Scope}
 
 abbrev pub found : Option Sort → Option Kind
@@ -25,11 +24,6 @@ numbers_if b = given b numbers
 
 abbrev pub truths_if : Bool → Option Kind
 truths_if b = given b truths
-
--- of a call, or of a record
-abbrev pub list_operator : Option ℕ → OpN
-list_operator (Some k) = call k
-list_operator None = fields
 
 -- the goal's symbols, then the new ones; the goal's calls
 abbrev pub signature : Scope → Signature

@@ -5,4 +5,5 @@ mod operators;
 mod scope;
 mod sorting;
 
+pub use scope::FoundSort;
 pub use sorting::{is_formula, is_number, sort_of};

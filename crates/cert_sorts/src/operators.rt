@@ -4,15 +4,19 @@
 //! alone.
 
 ghost use Rattle.std.specs.Prelude.{◌≡◌, ◌&&◌, ◌++◌, ◌∷◌, [], Some, IfOk, OnOk};
-ghost use Rattle.logic_terms.specs.Node.{conj, disj, eq, fill, fld, fst, iff, ite, lst, sel, sto, tru, upd};
+ghost use Rattle.logic_terms.specs.Node.{eq, fill, fld, fst, ite, lst, sel, sto, tru, upd};
+ghost use Rattle.logic_terms.specs.Operators.{binary_of, comparison_of, connective_of, list_of, ternary_of, unary_of};
 ghost use Rattle.logic_terms.specs.Value.{numbers, records};
 ghost use Rattle.logic_terms.specs.Sorts.{sort};
-ghost use Rattle.logic_terms.specs.Sorting.{given, kind-upd, kindn, nth_kind, on1, on2, on3};
-ghost use Rattle.cert_rules.specs.Context.{is_some_numbers};
-ghost use Rattle.cert_sorts.specs.Found.{found, kinds, list_operator, numbers_if, signature, truths_if};
+ghost use Rattle.logic_terms.specs.Sorting.{given, kind-upd, kind_over, kindn, nth_kind, on1, on2, on3};
+ghost use Rattle.cert_lines.specs.Symbols.{is_some_numbers};
+ghost use Rattle.cert_sorts.specs.Found.{found, kinds, numbers_if, signature, truths_if};
 
-use crate::scope::{FoundSort, Scope, call_sort};
-use logic_terms::{Sort, SortList, Starved, same_sort};
+use crate::scope::{FoundSort, Scope, call_sort, number_if};
+use logic_terms::{
+    BinaryOperator, Comparison, Connective, ListOperator, Sort, SortList, Starved, TernaryOperator,
+    UnaryOperator, same_sort,
+};
 use sqlite_items::{Boxed, at};
 use std::alloc::Global;
 
@@ -57,16 +61,6 @@ pub fn is_array(s: FoundSort) -> bool
         },
         None => false,
     }
-}
-
-/// Whether both operands are as they are to be, as the formulas of `and`, `or` and `iff`.
-pub fn both(a: bool, b: bool) -> bool
-    ensures value { result ≡ (a && b) }
-    ensures conjunction { truths_if result ≡ on2 conj (truths_if a) (truths_if b) }
-    ensures disjunction { truths_if result ≡ on2 disj (truths_if a) (truths_if b) }
-    ensures equivalence { truths_if result ≡ on2 iff (truths_if a) (truths_if b) }
-{
-    a && b
 }
 
 /// Whether `=` is well sorted between terms of these sorts.
@@ -253,20 +247,116 @@ pub fn sort_of_update(k: u32, r: FoundSort, v: FoundSort) -> FoundSort
     }
 }
 
+/// Of an operator with one operand of this sort.
+#[inline(never)]
+pub fn unary_sort(
+    alloc: Global,
+    operator: UnaryOperator,
+    a: FoundSort,
+) -> Result<FoundSort, Starved>
+    ensures { IfOk result (λ r. found r ≡ on1 (unary_of operator) (found a)) }
+{
+    match operator {
+        UnaryOperator::First | UnaryOperator::Last => number_if(alloc, is_array(a)),
+        UnaryOperator::Field(k) => sort_of_field(alloc, k, a),
+    }
+}
+
+/// Of an operator with two operands of these sorts.
+#[inline(never)]
+#[tactic(auto, using(crate::proofs::Fitting::arithmetic, crate::proofs::Fitting::index))]
+pub fn binary_sort(
+    alloc: Global,
+    operator: BinaryOperator,
+    a: FoundSort,
+    b: FoundSort,
+) -> Result<FoundSort, Starved>
+    ensures { IfOk result (λ r. found r ≡ on2 (binary_of operator) (found a) (found b)) }
+{
+    match operator {
+        BinaryOperator::Compute(_) => {
+            let first = is_num(a);
+            let second = is_num(b);
+            number_if(alloc, first && second)
+        }
+        BinaryOperator::Select => Ok(sort_of_item(a, is_num(b))),
+        BinaryOperator::Update(k) => Ok(sort_of_update(k, a, b)),
+    }
+}
+
+/// Of an operator with three operands of these sorts.
+#[inline(never)]
+#[tactic(auto, using(crate::proofs::Fitting::limits, crate::proofs::Fitting::store))]
+pub fn ternary_sort(
+    alloc: Global,
+    operator: TernaryOperator,
+    a: FoundSort,
+    b: FoundSort,
+    c: FoundSort,
+) -> Result<FoundSort, Starved>
+    ensures { IfOk result (λ r. found r ≡ on3 (ternary_of operator) (found a) (found b) (found c)) }
+{
+    match operator {
+        TernaryOperator::Store => Ok(sort_of_store(a, is_num(b), c)),
+        TernaryOperator::Fill => {
+            let first = is_num(a);
+            let last = is_num(b);
+            sort_of_fill(alloc, first, last, c)
+        }
+    }
+}
+
 /// Of a call, or of a record, at operands of these sorts.
 #[inline(never)]
-pub fn sort_of_list(
+pub fn list_sort(
     alloc: Global,
     scope: &Scope,
-    call: Option<u32>,
+    operator: ListOperator,
     sorts: SortList,
 ) -> Result<FoundSort, Starved>
-    ensures { IfOk result (λ r. found r ≡ kindn (signature scope.now) (list_operator call) (kinds sorts)) }
+    ensures { IfOk result (λ r. found r ≡ kindn (signature scope.now) (list_of operator) (kinds sorts)) }
 {
-    match call {
-        Some(k) => call_sort(alloc, scope, k, &sorts),
-        None => Ok(Some(Boxed::new(alloc, Sort::Record(sorts))?)),
+    match operator {
+        ListOperator::Call(k) => call_sort(alloc, scope, k, &sorts),
+        ListOperator::Record => Ok(Some(Boxed::new(alloc, Sort::Record(sorts))?)),
     }
+}
+
+/// Whether terms of these sorts can be compared.
+#[inline(never)]
+#[tactic(auto, using(crate::proofs::Fitting::order))]
+pub fn can_compare(operator: Comparison, a: FoundSort, b: FoundSort) -> bool
+    ensures { truths_if result ≡ on2 (comparison_of operator) (found a) (found b) }
+{
+    match operator {
+        Comparison::AtMost => {
+            let first = is_num(a);
+            let second = is_num(b);
+            first && second
+        }
+        Comparison::Equal => can_equate(a, b),
+    }
+}
+
+/// Whether a connective between formulas that are well sorted or not is.
+#[inline(never)]
+pub fn are_joined(connective: Connective, p: bool, q: bool) -> bool
+    ensures { truths_if result ≡ on2 (connective_of connective) (truths_if p) (truths_if q) }
+{
+    match connective {
+        Connective::And | Connective::Or | Connective::Iff => p && q,
+    }
+}
+
+/// Whether a quantifier with bounds of these sorts, and a body that is well sorted or not, is.
+#[inline(never)]
+#[tactic(auto, using(crate::proofs::Fitting::quantifier))]
+pub fn is_quantified(first: FoundSort, last: FoundSort, body: bool) -> bool
+    ensures { truths_if result ≡ kind_over (found first) (found last) (truths_if body) }
+{
+    let first = is_num(first);
+    let last = is_num(last);
+    first && last && body
 }
 
 /// Adds a sort to a list.
@@ -274,5 +364,5 @@ pub fn sort_of_list(
 pub fn push_sort(sorts: &mut SortList, s: Boxed<Sort>) -> Result<(), Starved>
     ensures { OnOk result (sorts.new ≡ sorts.old ++ s ∷ []) }
 {
-    Ok(sorts.push(s.into_inner())?)
+    sorts.push(s.into_inner())
 }

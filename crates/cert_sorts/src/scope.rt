@@ -3,7 +3,7 @@
 ghost use Rattle.std.specs.Prelude.{◌≡◌, IfOk};
 ghost use Rattle.logic_terms.specs.Sorting.{kind-call, nth};
 ghost use Rattle.logic_terms.specs.Value.{same_kinds};
-ghost use Rattle.cert_rules.specs.Context.{new_kinds};
+ghost use Rattle.cert_lines.specs.Symbols.{new_kinds};
 ghost use Rattle.cert_sorts.specs.Found.{found, kinds, numbers_if, signature, truths_if};
 
 use logic_terms::{Goal, Sort, SortList, Starved, same_sort};

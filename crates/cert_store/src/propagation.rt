@@ -11,7 +11,7 @@ ghost use Rattle.cert_store.specs.Store.{nodes};
 
 use crate::assumed::{assume, is_false};
 use logic_terms::{Formula, FormulaList, Starved};
-use sqlite_items::{Items, at};
+use sqlite_items::{Boxed, Items, at};
 use std::alloc::Global;
 use std::collections::BTreeSet;
 
@@ -56,7 +56,7 @@ fn propagate(
         return Ok(Step::AllFalse);
     };
     if left.is_empty() {
-        assume(alloc, assumed, p)?;
+        assume(alloc, assumed, Boxed::new(alloc, p)?)?;
         Ok(Step::Assumed)
     } else {
         Ok(Step::Stuck)

@@ -13,9 +13,15 @@ use sqlite_items::Items;
 use std::alloc::Global;
 
 /// The clauses of the earlier lines, in their order.
-#[derive(Drop)]
 pub struct ClauseStore {
     clauses: Items<FormulaList>,
+}
+
+impl Drop for ClauseStore {
+    fn drop(self) {
+        let ClauseStore { clauses } = self;
+        drop(clauses);
+    }
 }
 
 impl ClauseStore {
@@ -35,8 +41,7 @@ impl ClauseStore {
         ensures ok { OnOk result (clauses self.new ≡ clauses self.old ++ map formula clause ∷ []) }
         ensures err { OnErr result (clauses self.new ≡ clauses self.old) }
     {
-        self.clauses.push(clause)?;
-        Ok(())
+        self.clauses.push(clause)
     }
 
     /// Whether a clause of these literals follows from the clauses of the lines that the hints name. Lines are numbered from 1.

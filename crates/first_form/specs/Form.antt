@@ -1,6 +1,7 @@
 -- The limits that a form keeps.
 use Rattle.std.specs.Prelude.{◌≡◌, ℕ, Bool, true, not, ◌&&◌, nat_le, List, length}
 use Rattle.std.specs.List.{list_all}
+use Rattle.ada_values.specs.Scalars.{integer_last}
 use Rattle.first_form.specs.declared.form.FirstForm.{FirstForm}
 use Rattle.first_form.specs.declared.form.Assertion.{Assertion}
 use Rattle.first_form.specs.declared.form.Operand.{Operand}
@@ -9,7 +10,7 @@ use Rattle.first_form.specs.Names.{are_different, is_name, same_name}
 
 -- a number of Integer (Ada RM 3.5.4), or a name that isn't the procedure's
 abbrev pub is_operand : List ℕ → Operand → Bool
-is_operand name (Number n) = nat_le n 2147483647
+is_operand name (Number n) = nat_le n integer_last
 is_operand name (Name x) = is_name x && not (same_name x name)
 
 abbrev pub is_assertion : List ℕ → Assertion → Bool

@@ -1,5 +1,6 @@
 -- The form of a syntax tree: a procedure of assertions, in any layout and case.
 use Rattle.std.specs.Prelude.{ℕ, Bool, true, false, ◌&&◌, ◌==◌, nat_le, Option, Some, None, List, [], ◌∷◌, length, codes, is_none, option_map, option_and_then, if◌then◌else◌, ℤ, pos}
+use Rattle.ada_values.specs.Scalars.{integer_last}
 use Rattle.ada_values.specs.declared.place.Place.{Place}
 use Rattle.ada_text.specs.declared.token.Span.{Span}
 use Rattle.typed_units.specs.declared.operators.Relation.{Relation}
@@ -53,7 +54,7 @@ each f (x ∷ xs) = with_first (f x) (each f xs)
 
 -- a number of Integer
 abbrev pub number_in : ℤ → Option ℕ
-number_in (pos n) = if nat_le n 2147483647 then Some n else None
+number_in (pos n) = if nat_le n integer_last then Some n else None
 number_in _ = None
 
 -- a name that is an identifier alone, as it is written (Ada RM 4.1)

@@ -9,18 +9,15 @@ use crate::spelled::{is_word, place_at, text_at};
 use ada_syntax::{
     Action, Arg, ArgChoice, BinaryOperator, Expr, ExprNode, ItemForm, Name, Pragma, Stmt,
 };
-use ada_values::{NameText, Place};
+use ada_values::{INTEGER_LAST, NameText, Place};
 use std::alloc::Global;
 use typed_units::Relation;
-
-/// The greatest number of an operand, which is `Integer'Last`.
-const GREATEST: i128 = 2_147_483_647;
 
 /// A number of Integer.
 fn number_in(number: i128) -> Option<u32>
     ensures { result ≡ number_in number }
 {
-    if 0 <= number && number <= GREATEST {
+    if 0 <= number && number <= INTEGER_LAST {
         Some(number as u32)
     } else {
         None

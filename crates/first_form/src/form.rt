@@ -2,15 +2,14 @@
 
 ghost use Rattle.std.specs.Prelude.{◌≡◌};
 
-use ada_values::{NameList, NameText, Place};
+use ada_values::{NameList, NameText, Place, Starved};
 use sqlite_items::Items;
-use std::alloc::AllocError;
 use typed_units::Relation;
 
 /// A side of an assertion.
 #[derive(Debug, Drop)]
 pub enum Operand {
-    /// A number, from 0 to 2147483647 in a form.
+    /// A number of Integer in a form.
     Number(u32),
     /// A name as it is written.
     Name(NameText),
@@ -55,12 +54,12 @@ pub enum FormFault {
     Starved,
 }
 
-impl From<AllocError> for FormFault {
+impl From<Starved> for FormFault {
     ghost use Rattle.first_form.specs.declared.form.FormFault.TheVariants.{Starved};
 
     ghost from_gives = { λ _ fault. fault ≡ Starved };
 
-    fn from(_error: AllocError) -> FormFault {
+    fn from(_error: Starved) -> FormFault {
         FormFault::Starved
     }
 }

@@ -7,10 +7,7 @@ ghost use Rattle.first_form.specs.Form.{are_assertions, are_params, is_assertion
 
 use crate::form::{Assertion, FirstForm, Operand};
 use crate::names::{are_different, is_name, same_name};
-use ada_values::NameText;
-
-/// The greatest number of an operand, which is `Integer'Last`.
-const GREATEST: u32 = 2_147_483_647;
+use ada_values::{INTEGER_LAST, NameText};
 
 /// The most parameters.
 const MOST_PARAMS: usize = 8;
@@ -23,7 +20,7 @@ fn is_operand(name: &[u8], operand: &Operand) -> bool
     ensures { result ≡ is_operand name.now operand.now }
 {
     match operand {
-        Operand::Number(number) => *number <= GREATEST,
+        Operand::Number(number) => i128::from(*number) <= INTEGER_LAST,
         Operand::Name(other) => is_name(other.as_bytes()) && !same_name(other.as_bytes(), name),
     }
 }
@@ -66,7 +63,7 @@ fn are_assertions(name: &[u8], assertions: &[Assertion]) -> bool
 }
 
 /// Whether the form keeps its limits: it has 1 to 8 parameters that differ and 1 to 500 assertions, in any case of
-/// letters no name is predefined or longer than 100 bytes, numbers are at most 2147483647, and no operand is the
+/// letters no name is predefined or longer than 100 bytes, numbers are at most `Integer'Last`, and no operand is the
 /// procedure's name.
 pub fn is_form(form: &FirstForm) -> bool
     ensures { result ≡ is_form form.now }

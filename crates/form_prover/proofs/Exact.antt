@@ -22,8 +22,10 @@ use Rattle.first_form.specs.declared.form.Operand.{Operand}
 use Rattle.first_form.specs.declared.form.Operand.TheVariants.{Number, Name}
 use Rattle.form_prover.specs.declared.rows.Row.{Row}
 use Rattle.form_prover.specs.declared.verdicts.Verdict.{Verdict}
-use Rattle.form_prover.specs.Program.{integer, compared, assertions, procedure_of, program_of}
-use Rattle.form_prover.specs.Rows.{same_site, all_said, sites_of, rows_from, rows_with, one_worker}
+use Rattle.form_prover.specs.Program.{shapes_of, compared, assertions, procedure_of, program_of}
+use Rattle.ada_values.specs.Scalars.{integer}
+use Rattle.typed_units.specs.Sites.{same_site}
+use Rattle.form_prover.specs.Rows.{all_said, sites_of, rows_from, rows_with, one_worker}
 use Rattle.form_prover.specs.Formulas.{compared_node, condition_node, input_nodes, says, verdicts_on, all_proved, row_among}
 use Rattle.form_prover.proofs.Numbering.{says-numbered}
 
@@ -33,23 +35,23 @@ abbrev pub tree_from : List (List ℕ) → List Assertion → Tree
 tree_from ps [] = tree.done
 tree_from ps (a ∷ as') = tree.check (site a.left.place kind.Assert) (condition_node ps a) (tree_from ps as')
 
-formula_is : (ps : List (List ℕ)) (a : Assertion) (p : Place) (x y : Operand)
-    → formula_of symbol_of (at p (compared ps a x y)) ≡ Some (compared_node ps a.relation x y)
-formula_is ps a p (Number m) (Number n) = refl
-formula_is ps a p (Number m) (Name y) = refl
-formula_is ps a p (Name x) (Number n) = refl
-formula_is ps a p (Name x) (Name y) = refl
+formula_is : (ps : List (List ℕ)) (a : Assertion) (p : Place) (z : ℕ) (x y : Operand)
+    → formula_of symbol_of (at p z (compared ps a x y)) ≡ Some (compared_node ps a.relation x y)
+formula_is ps a p z (Number m) (Number n) = refl
+formula_is ps a p z (Number m) (Name y) = refl
+formula_is ps a p z (Name x) (Number n) = refl
+formula_is ps a p z (Name x) (Name y) = refl
 
 body_is : (ps : List (List ℕ)) (as' : List Assertion) → statements symbol_of (assertions ps as') ≡ Some (tree_from ps as')
 body_is ps [] = refl
-body_is ps (a ∷ as') = rw (formula_is ps a a.left.place a.left.operand a.right.operand, body_is ps as')
+body_is ps (a ∷ as') = rw (formula_is ps a a.left.place 2 a.left.operand a.right.operand, body_is ps as')
 
 abbrev pub input_tree : ℕ → ℕ → Tree → Tree
 input_tree zero k t = t
 input_tree (suc n) k t = tree.any k numbers (any_role.Input k) (tree.assume (bounds_of integer (node.sym k)) (input_tree n (suc k) t))
 
 inputs_are : (ps : List (List ℕ)) (k : ℕ) (t : Tree)
-    → inputs (shape.Number integer ∷ []) (map (λ p. record { mode = mode.In; shape = 0 }) ps) k t ≡ Some (input_tree (length ps) k t)
+    → inputs shapes_of (map (λ p. record { mode = mode.In; subtype = 1 }) ps) k t ≡ Some (input_tree (length ps) k t)
 inputs_are [] k t = refl
 inputs_are (p ∷ ps) k t = rw (inputs_are ps (suc k) t)
 
@@ -62,7 +64,7 @@ abbrev pub way_after : ℕ → ℕ → Way → Way
 way_after zero k y = y
 way_after (suc n) k y = way_after n (suc k) (learn (meet y k numbers (any_role.Input k)) (bounds_of integer (node.sym k)))
 
-goals_after : (n k : ℕ) (y : Way) (t : Tree) → goals_from [] y (input_tree n k t) ≡ goals_from [] (way_after n k y) t
+pub goals_after : (n k : ℕ) (y : Way) (t : Tree) → goals_from [] y (input_tree n k t) ≡ goals_from [] (way_after n k y) t
 goals_after zero k y t = refl
 goals_after (suc n) k y t = goals_after n (suc k) (learn (meet y k numbers (any_role.Input k)) (bounds_of integer (node.sym k))) t
 

@@ -5,3 +5,4 @@ pub mod Exact
 pub mod Steps
 pub mod Equal
 pub mod Passing
+pub mod Complete

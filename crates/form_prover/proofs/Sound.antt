@@ -16,7 +16,8 @@ use Rattle.form_prover.proofs.Exact.{input_tree, tree_from, tree_is}
 use Rattle.vc_tree.specs.Sound.{ValidAt}
 use Rattle.vc_tree.proofs.Inputs.{both_true}
 use Rattle.form_prover.specs.Given.{given_says}
-use Rattle.form_prover.specs.Rows.{same_site, all_said, sites_of, rows_from, rows_with, one_worker}
+use Rattle.typed_units.specs.Sites.{same_site}
+use Rattle.form_prover.specs.Rows.{all_said, sites_of, rows_from, rows_with, one_worker}
 use Rattle.form_prover.proofs.Valid.{or_cases, given_valid}
 
 same_site-refl : (c : SiteKey) → same_site c c ≡ true

@@ -9,7 +9,7 @@ use Rattle.first_form.specs.declared.form.Assertion.{Assertion}
 use Rattle.first_form.specs.declared.form.Operand.{Operand}
 use Rattle.first_form.specs.declared.form.Operand.TheVariants.{Number, Name}
 use Rattle.first_form.specs.Places.{position_of}
-use Rattle.form_prover.specs.Program.{integer}
+use Rattle.ada_values.specs.Scalars.{integer}
 use Rattle.form_prover.specs.Given.{computed, is_false, some_false}
 use Rattle.form_prover.specs.Formulas.{compared_node, condition_node, static_of, static_truth, input_nodes}
 

@@ -14,9 +14,9 @@ use Rattle.first_form.specs.declared.form.Operand.TheVariants.{Number, Name}
 use Rattle.first_form.specs.Places.{position_of}
 use Rattle.form_prover.specs.declared.rows.Row.{Row}
 use Rattle.form_prover.specs.declared.verdicts.Verdict.{Verdict}
-use Rattle.form_prover.specs.Program.{integer}
+use Rattle.ada_values.specs.Scalars.{integer}
 use Rattle.form_prover.specs.Given.{some_equals, some_false, computed, is_true}
-use Rattle.form_prover.specs.Rows.{same_site}
+use Rattle.typed_units.specs.Sites.{same_site}
 
 abbrev pub operand_node : List (List ℕ) → Operand → Node
 operand_node ps (Number n) = node.num (pos n)

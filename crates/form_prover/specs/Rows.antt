@@ -1,9 +1,8 @@
 -- The rows of a report, as one worker makes them.
-use Rattle.std.specs.Prelude.{ℕ, Bool, true, not, ◌&&◌, ◌||◌, ◌==◌, Option, Some, None, List, [], ◌∷◌}
-use Rattle.ada_values.specs.declared.place.Place.{Place}
-use Rattle.typed_units.specs.declared.checks.CheckKind.{CheckKind}
+use Rattle.std.specs.Prelude.{ℕ, Bool, true, not, ◌&&◌, ◌||◌, Option, Some, None, List, [], ◌∷◌}
 use Rattle.typed_units.specs.declared.checks.CheckKind.TheVariants as kind
 use Rattle.typed_units.specs.declared.checks.SiteKey.{SiteKey}
+use Rattle.typed_units.specs.Sites.{same_site}
 use Rattle.typed_units.specs.Syntax as text
 use Rattle.typed_units.specs.Syntax.{at, st, assert, Sts, Routine, Text}
 use Rattle.ada_semantics.specs.Outcome.{site}
@@ -13,25 +12,6 @@ use Rattle.vc_tree.specs.Rules.{tree_of}
 use Rattle.form_prover.specs.declared.rows.Row.{Row}
 use Rattle.form_prover.specs.Given.{given_says}
 
-abbrev pub same_place : Place → Place → Bool
-same_place p q = (p.file == q.file) && (p.line == q.line) && (p.column == q.column)
-
-abbrev pub kind_number : CheckKind → ℕ
-kind_number kind.Overflow = 0
-kind_number kind.Range = 1
-kind_number kind.Index = 2
-kind_number kind.Division = 3
-kind_number kind.Pre = 4
-kind_number kind.Post = 5
-kind_number kind.Assert = 6
-kind_number kind.Assume = 7
-kind_number kind.InvFirst = 8
-kind_number kind.InvKept = 9
-kind_number kind.Variant = 10
-
-abbrev pub same_site : SiteKey → SiteKey → Bool
-same_site c d = same_place c.place d.place && (kind_number c.kind == kind_number d.kind)
-
 -- each goal of the site is proved
 abbrev pub all_said : SiteKey → List SiteGoal → Bool
 all_said c [] = true
@@ -39,7 +19,7 @@ all_said c (g ∷ gs) = (not (same_site g.site c) || given_says g.problem) && al
 
 -- the sites of a list of assertions, in order
 abbrev pub sites_of : Sts → List SiteKey
-sites_of (text.then (st q (assert (at p x))) rest) = site p kind.Assert ∷ sites_of rest
+sites_of (text.then (st q (assert (at p z x))) rest) = site p kind.Assert ∷ sites_of rest
 sites_of _ = []
 
 abbrev pub rows_from : List SiteGoal → List SiteKey → List Row

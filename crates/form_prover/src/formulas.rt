@@ -5,20 +5,15 @@ ghost use Rattle.ada_semantics.specs.Operators.{ordered};
 ghost use Rattle.logic_terms.specs.View.{term, formula};
 ghost use Rattle.logic_terms.specs.Node.{sym, op1, op2, neg, conj, eq};
 ghost use Rattle.vc_tree.specs.Rules.{at_most, plus_one, related, bounds_of};
-ghost use Rattle.form_prover.specs.Program.{integer};
+ghost use Rattle.ada_values.specs.Scalars.{integer};
 ghost use Rattle.form_prover.specs.Formulas.{operand_node, condition_node, input_nodes};
 
-use ada_values::NameList;
+use ada_values::{INTEGER_FIRST, INTEGER_LAST, NameList, Starved};
 use first_form::{Assertion, Operand, position_of};
-use logic_terms::{Formula, FormulaList, Starved, Term};
+use logic_terms::{Formula, FormulaList, Term};
 use sqlite_items::{Boxed, Items};
 use std::alloc::Global;
 use typed_units::Relation;
-
-/// The bounds of the subtype Integer.
-const FIRST: i128 = -2_147_483_648;
-
-const LAST: i128 = 2_147_483_647;
 
 /// Whether two numbers stand in a relation.
 pub fn are_related(relation: Relation, left: u32, right: u32) -> bool
@@ -45,36 +40,18 @@ fn term_of(params: &NameList, operand: &Operand) -> Term
     }
 }
 
-fn boxed(alloc: Global, part: Term) -> Result<Boxed<Term>, Starved>
-    ensures { IfOk result (λ b. b ≡ part) }
-{
-    match Boxed::new(alloc, part) {
-        Ok(part) => Ok(part),
-        Err(_) => Err(Starved),
-    }
-}
-
-fn boxed_formula(alloc: Global, part: Formula) -> Result<Boxed<Formula>, Starved>
-    ensures { IfOk result (λ b. b ≡ part) }
-{
-    match Boxed::new(alloc, part) {
-        Ok(part) => Ok(part),
-        Err(_) => Err(Starved),
-    }
-}
-
 /// `left <= right`.
 fn at_most(alloc: Global, left: Term, right: Term) -> Result<Formula, Starved>
     ensures { IfOk result (λ f. formula f ≡ at_most (term left) (term right)) }
 {
-    Ok(Formula::Le(boxed(alloc, left)?, boxed(alloc, right)?))
+    Ok(Formula::Le(Boxed::new(alloc, left)?, Boxed::new(alloc, right)?))
 }
 
 /// `part + 1`.
 fn next(alloc: Global, part: Term) -> Result<Term, Starved>
     ensures { IfOk result (λ t. term t ≡ plus_one (term part)) }
 {
-    Ok(Term::Add(boxed(alloc, part)?, boxed(alloc, Term::Num(1))?))
+    Ok(Term::Add(Boxed::new(alloc, part)?, Boxed::new(alloc, Term::Num(1))?))
 }
 
 /// `left + 1 <= right`.
@@ -88,21 +65,21 @@ fn less(alloc: Global, left: Term, right: Term) -> Result<Formula, Starved>
 fn equal(alloc: Global, left: Term, right: Term) -> Result<Formula, Starved>
     ensures { IfOk result (λ f. formula f ≡ op2 eq (term left) (term right)) }
 {
-    Ok(Formula::Eq(boxed(alloc, left)?, boxed(alloc, right)?))
+    Ok(Formula::Eq(Boxed::new(alloc, left)?, Boxed::new(alloc, right)?))
 }
 
 /// Not `part`.
 fn negated(alloc: Global, part: Formula) -> Result<Formula, Starved>
     ensures { IfOk result (λ f. formula f ≡ op1 neg (formula part)) }
 {
-    Ok(Formula::Not(boxed_formula(alloc, part)?))
+    Ok(Formula::Not(Boxed::new(alloc, part)?))
 }
 
 /// Both `left` and `right`.
 fn both(alloc: Global, left: Formula, right: Formula) -> Result<Formula, Starved>
     ensures { IfOk result (λ f. formula f ≡ op2 conj (formula left) (formula right)) }
 {
-    Ok(Formula::And(boxed_formula(alloc, left)?, boxed_formula(alloc, right)?))
+    Ok(Formula::And(Boxed::new(alloc, left)?, Boxed::new(alloc, right)?))
 }
 
 /// The formula of a comparison of numbers, in which `=` and `<=` are the only relations.
@@ -149,8 +126,8 @@ pub fn condition(
 fn bounds(alloc: Global, input: u32) -> Result<Formula, Starved>
     ensures { IfOk result (λ f. formula f ≡ bounds_of integer (sym input)) }
 {
-    let low = at_most(alloc, Term::Num(FIRST), Term::Sym(input))?;
-    let high = at_most(alloc, Term::Sym(input), Term::Num(LAST))?;
+    let low = at_most(alloc, Term::Num(INTEGER_FIRST), Term::Sym(input))?;
+    let high = at_most(alloc, Term::Sym(input), Term::Num(INTEGER_LAST))?;
     both(alloc, low, high)
 }
 

@@ -7,5 +7,5 @@ mod laws;
 mod rows;
 mod verdicts;
 
-pub use laws::proved_rows_hold;
+pub use laws::{proved_rows_hold, rows_are_complete};
 pub use rows::{Row, RowList, rows_of};

@@ -4,14 +4,14 @@ ghost use Rattle.std.specs.Prelude.{◌≡◌, map, IfOk};
 ghost use Rattle.first_form.specs.Form.{IsForm};
 ghost use Rattle.form_prover.specs.Program.{procedure_of, program_of};
 ghost use Rattle.form_prover.specs.Formulas.{all_proved, row_among};
-ghost use Rattle.form_prover.specs.Rows.{one_worker, same_site};
+ghost use Rattle.form_prover.specs.Rows.{one_worker};
 
 use crate::verdicts::{Verdict, verdicts_of};
+use ada_values::Starved;
 use first_form::FirstForm;
-use logic_terms::Starved;
 use sqlite_items::Items;
 use std::alloc::Global;
-use typed_units::SiteKey;
+use typed_units::{SiteKey, same_site};
 
 /// A site, and whether all its goals are proved.
 #[derive(Clone, Copy, Debug, PartialEq, Eq)]
@@ -22,13 +22,6 @@ pub struct Row {
 
 /// Rows in the order of their sites.
 pub type RowList = Items<Row>;
-
-/// Whether two sites are one.
-fn same_site(left: SiteKey, right: SiteKey) -> bool
-    ensures { result ≡ same_site left right }
-{
-    left == right
-}
 
 /// Whether each goal of a site is proved.
 fn all_proved(site: SiteKey, mut verdicts: &[Verdict]) -> bool

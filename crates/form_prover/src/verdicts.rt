@@ -10,9 +10,9 @@ ghost use Rattle.form_prover.specs.Formulas.{condition_node, input_nodes, verdic
 
 use crate::formulas::{condition, inputs};
 use crate::given::{has_equal, truth_of};
-use ada_values::{NameList, Place};
+use ada_values::{NameList, Place, Starved};
 use first_form::{Assertion, FirstForm};
-use logic_terms::{FormulaList, Starved};
+use logic_terms::FormulaList;
 use sqlite_items::Items;
 use std::alloc::Global;
 use typed_units::{CheckKind, SiteKey};

@@ -9,7 +9,7 @@ pub use laws::{
     error_lines_differ, fault_lines_differ, lines_are_rows, lines_read_back, one_line_is_whole,
 };
 pub use rows::{Row, RowList, RowStatus};
-pub use text::report_text;
+pub use text::{push_place, report_text};
 
 #[cfg(test)]
 mod tests;

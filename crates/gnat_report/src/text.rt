@@ -6,8 +6,8 @@ ghost use Rattle.gnat_report.specs.Reading.{HavePlaces, IsPlace};
 ghost use Rattle.gnat_report.specs.Text.{line_text, outcome_of, outcome_text, place_text, report_text_of, severity_of, words_of};
 
 use crate::rows::{Row, RowList, RowStatus};
-use ada_values::{ByteList, Place};
-use std::alloc::{AllocError, Global};
+use ada_values::{ByteList, Place, Starved};
+use std::alloc::Global;
 use typed_units::CheckKind;
 
 /// The words for a kind of check.
@@ -52,15 +52,15 @@ fn outcome(status: RowStatus) -> &'static str
 }
 
 /// Adds a number in decimal digits.
-fn push_number(alloc: Global, text: &mut Vec<u8>, number: u32) -> Result<(), AllocError>
+fn push_number(alloc: Global, text: &mut Vec<u8>, number: u32) -> Result<(), Starved>
     ensures { OnOk result (text.new.items ≡ text.old.items ++ decimal number) }
 {
     let digits = format!(in alloc; "{number}")?;
     text.extend_from_slice(digits.as_bytes())
 }
 
-/// Adds a place without its file: `:LINE:COLUMN: `.
-fn push_place(alloc: Global, text: &mut Vec<u8>, place: Place) -> Result<(), AllocError>
+/// Adds a place without its file: `:LINE:COLUMN: `. An error comes where memory is refused.
+pub fn push_place(alloc: Global, text: &mut Vec<u8>, place: Place) -> Result<(), Starved>
     ensures text { OnOk result (text.new.items ≡ text.old.items ++ place_text place) }
     ensures place { IsPlace place }
 {
@@ -72,7 +72,7 @@ fn push_place(alloc: Global, text: &mut Vec<u8>, place: Place) -> Result<(), All
 }
 
 /// Adds what a row says of a site of this kind.
-fn push_outcome(text: &mut Vec<u8>, kind: CheckKind, status: RowStatus) -> Result<(), AllocError>
+fn push_outcome(text: &mut Vec<u8>, kind: CheckKind, status: RowStatus) -> Result<(), Starved>
     ensures { OnOk result (text.new.items ≡ text.old.items ++ outcome_text kind status) }
 {
     text.extend_from_slice(severity(status).as_bytes())?;
@@ -83,7 +83,7 @@ fn push_outcome(text: &mut Vec<u8>, kind: CheckKind, status: RowStatus) -> Resul
 }
 
 /// Adds the line of a row, with its end.
-fn push_row(alloc: Global, text: &mut Vec<u8>, row: &Row) -> Result<(), AllocError>
+fn push_row(alloc: Global, text: &mut Vec<u8>, row: &Row) -> Result<(), Starved>
     ensures text { OnOk result (text.new.items ≡ text.old.items ++ line_text row.now) }
     ensures place { OnOk result (IsPlace row.now.key.place) }
 {
@@ -95,7 +95,7 @@ fn push_row(alloc: Global, text: &mut Vec<u8>, row: &Row) -> Result<(), AllocErr
 
 /// The text of a report: a line for each row, in their order. Where it is answered, the places of the rows are known to
 /// lie in the range of their type, as `lines_read_back` wants them. An error comes where memory is refused.
-pub fn report_text(alloc: Global, rows: &RowList) -> Result<ByteList, AllocError>
+pub fn report_text(alloc: Global, rows: &RowList) -> Result<ByteList, Starved>
     ensures text { IfOk result (λ text. text ≡ report_text_of rows.now) }
     ensures places { OnOk result (HavePlaces rows.now) }
 {

@@ -41,7 +41,8 @@ use Rattle.gnatprove_core.specs.declared.status.Status.TheVariants as status
 use Rattle.gnatprove_core.specs.Words.{is_file_byte, is_file_name, file_of}
 use Rattle.gnatprove_core.specs.Texts.{read_fault_text}
 use Rattle.gnatprove_core.specs.Answers.{row_status, row_in, rows_of, Reports, AnswersForm, AnswersTree, AnswersRefusal, AnswersBytes, AnswersFile, AnswersRead, AnswersNamed, Answers, Ends}
-use Rattle.gnatprove_core.specs.Sound.{Accepted, CallsProved, NeverFailsAt, IsSound}
+use Rattle.form_prover.specs.Sound.{NeverFailsAt}
+use Rattle.gnatprove_core.specs.Sound.{Accepted, CallsProved, IsSound}
 
 -- ---- the name of a file
 

@@ -7,6 +7,7 @@ ghost use Rattle.first_form.specs.Form.{IsForm};
 ghost use Rattle.first_form.specs.Places.{first_unknown};
 ghost use Rattle.first_form.specs.Tree.{form_of};
 ghost use Rattle.gnatprove_core.specs.Texts.{read_fault_text};
+ghost use Rattle.gnatprove_core.specs.Words.{file_of as file_named};
 ghost use Rattle.gnatprove_core.specs.Answers.{AnswersForm, AnswersTree, AnswersRefusal, AnswersBytes, AnswersFile, Answers, Refuses, code_of};
 
 use crate::report::report;
@@ -15,11 +16,10 @@ use crate::texts::{error_text, no_file_text, read_fault_text, usage_text};
 use crate::words::file_of;
 use ada_text::{LexFault, line_col};
 use ada_tree::SourceUnit;
-use ada_values::{ByteList, NameText, WordList};
+use ada_values::{ByteList, NameText, Starved, WordList};
 use first_form::{FirstForm, FormFault, first_unknown, form_of};
 use grammar_table::SyntaxFault;
 use keeper_io::{KeepFault, Keeper};
-use logic_terms::Starved;
 use spark_reader::{ReadRefusal, place_of, read};
 use std::alloc::Global;
 
@@ -168,6 +168,7 @@ pub fn answer_to<K: Keeper>(
     ensures kept { IfOk result (λ answer. (answer.status ≡ Status.ReadFault → ⊥) → K.get_faults files.new ≡ K.get_faults files.old) }
     ensures map { K.told files.new ≡ K.told files.old }
     ensures puts { K.put_faults files.new ≡ K.put_faults files.old }
+    ensures untouched { file_named words.now ≡ None → files.new ≡ files.old }
 {
     let Some(name) = file_of(words) else {
         let text = usage_text(alloc)?;

@@ -7,11 +7,10 @@ ghost use Rattle.gnatprove_core.specs.Answers.{row_in, status_of, row_status, Re
 
 use crate::answer::Answer;
 use crate::status::Status;
-use ada_values::NameText;
+use ada_values::{NameText, Starved};
 use first_form::FirstForm;
 use form_prover::{RowList, rows_of};
 use gnat_report::{Row, RowStatus, report_text};
-use logic_terms::Starved;
 use sqlite_items::Items;
 use std::alloc::Global;
 

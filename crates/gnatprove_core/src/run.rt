@@ -1,10 +1,11 @@
 //! A run of the program on one thread.
 
-ghost use Rattle.std.specs.Prelude.{◌≡◌};
+ghost use Rattle.std.specs.Prelude.{◌≡◌, None};
 ghost use Rattle.keeper_io.specs.Causes.{Rose};
 ghost use Rattle.gnatprove_core.specs.Statuses.{IsAnswer};
 ghost use Rattle.gnatprove_core.specs.Answers.{Ends};
-ghost use Rattle.gnatprove_core.specs.Sound.{IsSound};
+ghost use Rattle.gnatprove_core.specs.Sound.{IsComplete, IsSound};
+ghost use Rattle.gnatprove_core.specs.Words.{file_of};
 
 use crate::answer::answer_to;
 use crate::status::Status;
@@ -13,7 +14,8 @@ use keeper_io::{Keeper, Sink, write_all};
 use std::alloc::Global;
 
 /// Runs the program on the words of its command line, without the program's own name: reads the file that they name from
-/// the keeper, writes the answer to the sink, and says how it ended.
+/// the keeper, writes the answer to the sink, and says how it ended. `Proved` says that no run of the file's program fails
+/// at any check. Words without a reading leave the keeper as it was.
 ///
 /// It starts no thread, waits for nobody, and always returns. `Starved` may come at any point, and then nothing was
 /// written.
@@ -25,6 +27,7 @@ pub fn run_alone<K: Keeper, S: Sink>(
 ) -> Status
     ensures ends { Ends (K.told files.old) words.now result (S.written out.old) (S.written out.new) }
     ensures sound { IsSound (K.told files.old) words.now (S.written out.old) (S.written out.new) }
+    ensures complete { IsComplete (K.told files.old) words.now result }
 
     ensures read_fault { result ≡ Status.ReadFault → Rose (K.get_faults files.old) (K.get_faults files.new) }
     ensures no_read_fault { IsAnswer result → K.get_faults files.new ≡ K.get_faults files.old }
@@ -33,6 +36,7 @@ pub fn run_alone<K: Keeper, S: Sink>(
 
     ensures files_stay { K.told files.new ≡ K.told files.old }
     ensures no_puts { K.put_faults files.new ≡ K.put_faults files.old }
+    ensures untouched { file_of words.now ≡ None → files.new ≡ files.old }
 {
     let Ok(answer) = answer_to(alloc, words, files) else {
         return Status::Starved;

@@ -1,40 +1,19 @@
 //! The lines that stand in place of a report.
 
-ghost use Rattle.std.specs.Prelude.{◌≡◌, ◌++◌, IfOk, OnOk};
-ghost use Rattle.std.specs.Fmt.{decimal};
+ghost use Rattle.std.specs.Prelude.{◌≡◌, IfOk};
 ghost use Rattle.gnatprove_core.specs.Texts.{usage_text, no_file_text, read_fault_text, error_text};
 
-use ada_values::{ByteList, NameText};
-use logic_terms::Starved;
+use ada_values::{ByteList, NameText, Place, Starved};
+use gnat_report::push_place;
 use sqlite_items::Items;
 use std::alloc::Global;
-
-/// Adds bytes to a text.
-fn push_bytes(text: &mut Vec<u8>, bytes: &[u8]) -> Result<(), Starved>
-    ensures { OnOk result (text.new.items ≡ text.old.items ++ bytes.now) }
-{
-    match text.extend_from_slice(bytes) {
-        Ok(()) => Ok(()),
-        Err(_) => Err(Starved),
-    }
-}
-
-/// Adds a number in decimal to a text.
-fn push_number(alloc: Global, text: &mut Vec<u8>, number: u32) -> Result<(), Starved>
-    ensures { OnOk result (text.new.items ≡ text.old.items ++ decimal number) }
-{
-    match number.to_string(alloc) {
-        Ok(digits) => push_bytes(text, digits.as_str().as_bytes()),
-        Err(_) => Err(Starved),
-    }
-}
 
 /// The line for words without a reading.
 pub fn usage_text(alloc: Global) -> Result<ByteList, Starved>
     ensures { IfOk result (λ text. text ≡ usage_text) }
 {
     let mut text = Vec::new(alloc);
-    push_bytes(&mut text, b"gnatprove: usage\n")?;
+    text.extend_from_slice(b"gnatprove: usage\n")?;
     Ok(Items::from_vec(text))
 }
 
@@ -43,9 +22,9 @@ pub fn no_file_text(alloc: Global, name: &NameText) -> Result<ByteList, Starved>
     ensures { IfOk result (λ text. text ≡ no_file_text name.now) }
 {
     let mut text = Vec::new(alloc);
-    push_bytes(&mut text, b"gnatprove: no file: ")?;
-    push_bytes(&mut text, name.as_bytes())?;
-    push_bytes(&mut text, b"\n")?;
+    text.extend_from_slice(b"gnatprove: no file: ")?;
+    text.extend_from_slice(name.as_bytes())?;
+    text.extend_from_slice(b"\n")?;
     Ok(Items::from_vec(text))
 }
 
@@ -54,9 +33,9 @@ pub fn read_fault_text(alloc: Global, name: &NameText) -> Result<ByteList, Starv
     ensures { IfOk result (λ text. text ≡ read_fault_text name.now) }
 {
     let mut text = Vec::new(alloc);
-    push_bytes(&mut text, b"gnatprove: read fault: ")?;
-    push_bytes(&mut text, name.as_bytes())?;
-    push_bytes(&mut text, b"\n")?;
+    text.extend_from_slice(b"gnatprove: read fault: ")?;
+    text.extend_from_slice(name.as_bytes())?;
+    text.extend_from_slice(b"\n")?;
     Ok(Items::from_vec(text))
 }
 
@@ -70,15 +49,16 @@ pub fn error_text(
 ) -> Result<ByteList, Starved>
     ensures { IfOk result (λ text. text ≡ error_text name.now line column code.now) }
 {
+    let place = Place {
+        file: 0,
+        line,
+        column,
+    };
     let mut text = Vec::new(alloc);
-    push_bytes(&mut text, name.as_bytes())?;
-    push_bytes(&mut text, b":")?;
-    push_number(alloc, &mut text, line)?;
-    push_bytes(&mut text, b":")?;
-    push_number(alloc, &mut text, column)?;
-    push_bytes(&mut text, b": ")?;
-    push_bytes(&mut text, b"error: ")?;
-    push_bytes(&mut text, code.as_bytes())?;
-    push_bytes(&mut text, b"\n")?;
+    text.extend_from_slice(name.as_bytes())?;
+    push_place(alloc, &mut text, place)?;
+    text.extend_from_slice(b"error: ")?;
+    text.extend_from_slice(code.as_bytes())?;
+    text.extend_from_slice(b"\n")?;
     Ok(Items::from_vec(text))
 }

@@ -2,9 +2,9 @@
 ghost use Rattle.std.specs.Prelude.{◌≡◌, IfOk};
 ghost use Rattle.std.specs.Str.{bytes_eq};
 
-use ada_values::{ByteList, NameText};
+use ada_values::{ByteList, NameText, Starved};
 use sqlite_items::Items;
-use std::alloc::{AllocError, Global};
+use std::alloc::Global;
 
 /// A name and the bytes that are kept under it.
 #[derive(Debug, Drop)]
@@ -18,7 +18,7 @@ pub type EntryList = Items<Entry>;
 
 impl Entry {
     /// An entry of this name with these bytes.
-    pub fn copied(alloc: Global, name: &NameText, bytes: &ByteList) -> Result<Entry, AllocError>
+    pub fn copied(alloc: Global, name: &NameText, bytes: &ByteList) -> Result<Entry, Starved>
         ensures name { IfOk result (λ entry. entry.name ≡ name.now) }
         ensures bytes { IfOk result (λ entry. entry.bytes ≡ bytes.now) }
     {

@@ -5,8 +5,8 @@ ghost use Rattle.std.specs.IoError.{error_kind};
 ghost use Rattle.std.specs.Io.KnownBytes.{Consumes, IsAtEnd};
 
 use crate::keeper::{KeepFault, Keeper};
-use ada_values::{ByteList, NameText};
-use std::alloc::{AllocError, Global};
+use ada_values::{ByteList, NameText, Starved};
+use std::alloc::Global;
 use std::io::{ErrorKind, Read, Write};
 use std::rt::Files;
 use std::{fs, io};
@@ -51,7 +51,7 @@ fn fault_of(error: io::Error) -> KeepFault
     }
 }
 
-fn step_buffer(alloc: Global) -> Result<Vec<u8>, AllocError>
+fn step_buffer(alloc: Global) -> Result<Vec<u8>, Starved>
     ensures { IfOk result (λ step. 0 < vec_len step) }
 {
     vec![in alloc; 0u8; STEP]

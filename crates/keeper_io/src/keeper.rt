@@ -1,12 +1,11 @@
 //! A keeper of named bytes, such as a folder of files.
 ghost use Rattle.std.specs.Prelude.{◌≡◌, ℕ, IfOk, OnOk, IsErrOf, Some};
 ghost use Rattle.std.specs.declared.option.Option.{Option};
-ghost use Rattle.keeper_io.specs.declared.keeper.KeepFault.TheVariants.{Starved};
 ghost use Rattle.keeper_io.specs.Causes.{HasKeepCause};
 ghost use Rattle.keeper_io.specs.Maps.{Map, Holds, OthersStay};
 
-use ada_values::{ByteList, NameText};
-use std::alloc::{AllocError, AllocFailed, Global};
+use ada_values::{ByteList, NameText, Starved};
+use std::alloc::Global;
 use thiserror::Error;
 
 /// Why a keeper has no answer.
@@ -20,18 +19,12 @@ pub enum KeepFault {
     Starved,
 }
 
-impl From<AllocError> for KeepFault {
+impl From<Starved> for KeepFault {
+    ghost use Rattle.keeper_io.specs.declared.keeper.KeepFault.TheVariants.{Starved};
+
     ghost from_gives = { λ _ fault. fault ≡ Starved };
 
-    fn from(_: AllocError) -> KeepFault {
-        KeepFault::Starved
-    }
-}
-
-impl<T: Drop> From<AllocFailed<T>> for KeepFault {
-    ghost from_gives = { λ _ fault. fault ≡ Starved };
-
-    fn from(_: AllocFailed<T>) -> KeepFault {
+    fn from(_error: Starved) -> KeepFault {
         KeepFault::Starved
     }
 }

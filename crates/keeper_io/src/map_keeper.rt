@@ -10,8 +10,8 @@ ghost use Rattle.keeper_io.specs.Maps.{entry_of, Holds, OthersStay};
 use crate::entry::{Entry, EntryList};
 use crate::failing_calls::{CallList, FailingCalls};
 use crate::keeper::{KeepFault, Keeper};
-use ada_values::{ByteList, NameText};
-use std::alloc::{AllocError, Global};
+use ada_values::{ByteList, NameText, Starved};
+use std::alloc::Global;
 
 /// A keeper in memory, which tells its map. Listed calls fail, and leave the map as it was.
 #[derive(Debug, Drop)]
@@ -73,7 +73,7 @@ fn position_of(entries: &[Entry], name: &NameText) -> Option<usize>
 }
 
 /// Puts an entry in the place of the first of its name, or behind all where there is none.
-fn store(entries: &mut EntryList, entry: Entry) -> Result<(), AllocError>
+fn store(entries: &mut EntryList, entry: Entry) -> Result<(), Starved>
     ensures stored { OnOk result (entry_of entries.new entry.name ≡ Some entry.bytes) }
     ensures others { OthersStay (Some entries.old) (Some entries.new) entry.name }
     ensures err { OnErr result (entries.new ≡ entries.old) }
@@ -105,8 +105,8 @@ impl Keeper for MapKeeper {
             self.get_faults = self.get_faults.saturating_add(1);
             return Err(KeepFault::Failed);
         }
-        match find_entry(self.entries.as_slice(), name) {
-            Some(entry) => Ok(Some(ByteList::from_slice(alloc, entry.bytes.as_slice())?)),
+        match self.bytes(name) {
+            Some(bytes) => Ok(Some(ByteList::from_slice(alloc, bytes)?)),
             None => Ok(None),
         }
     }

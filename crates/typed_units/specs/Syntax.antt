@@ -10,8 +10,10 @@ use Rattle.typed_units.specs.declared.operators.Composite.{Composite}
 use Rattle.typed_units.specs.declared.operators.Connective.{Connective}
 use Rattle.typed_units.specs.declared.operators.Quantifier.{Quantifier}
 use Rattle.typed_units.specs.declared.operators.Relation.{Relation}
+use Rattle.typed_units.specs.declared.statements.Choice.{Choice}
 use Rattle.typed_units.specs.declared.statements.Direction.{Direction}
 use Rattle.typed_units.specs.declared.programs.Mode.{Mode}
+use Rattle.typed_units.specs.declared.programs.Class.{Class}
 
 -- what a subprogram may read or write: objects by their numbers, and the result of a function
 pub data Var : Type 0 where
@@ -53,15 +55,16 @@ pub data Op2 : Type 0 where
   compare : Relation → Op2
   item : Bool → Op2
 
--- An expression is a node with the place of its first token. -- Ada RM 4
+-- An expression is a node with the place of its first token and the number of its subtype. -- Ada RM 4
 mutual
   pub data Ex : Type 0 where
-    at : Place → Nd → Ex
+    at : Place → ℕ → Nd → Ex
 
   pub data Nd : Type 0 where
     -- a static expression (Ada RM 4.9), or a package's constant, by its value
     static : Val → Nd
-    read : Moment → Var → Nd
+    -- an object by its name, which stands there
+    read : Place → Moment → Var → Nd
     -- a component of a record, by its number (Ada RM 4.1.3)
     component : ℕ → Ex → Nd
     op1 : Op1 → Ex → Nd
@@ -69,8 +72,8 @@ mutual
     connect : Connective → Ex → Ex → Nd
     -- whether a number lies, or doesn't lie, within two bounds (Ada RM 4.5.2)
     member : Bool → Ex → Ex → Ex → Nd
-    -- a call of the function of that number (Ada RM 6.4)
-    call : ℕ → Exs → Nd
+    -- a call of the function of that number, whose name stands there (Ada RM 6.4)
+    call : Place → ℕ → Actuals → Nd
     -- an aggregate, with the numbers of its components (Ada RM 4.3)
     aggregate : Composite → Bounds → Assocs → Nd
     -- an if-expression (Ada RM 4.5.7)
@@ -78,38 +81,38 @@ mutual
     -- the number of the index, its bounds, and the predicate (Ada RM 4.5.8)
     quantified : Quantifier → ℕ → Ex → Ex → Ex → Nd
 
-  -- expressions whose values are checked and passed, each for the formal parameter of a number, as they are written
-  pub data Exs : Type 0 where
-    no_exs : Exs
-    fitted : ℕ → Fit → Ex → Exs → Exs
+  -- the way from an object to a part of it: components, each of so many, and items, each with the array's bounds where its
+  -- subtype fixes them, whether there is an index check, and the index
+  pub data Path : Type 0 where
+    here : Path
+    to_component : ℕ → ℕ → Path → Path
+    to_item : Option Bounds → Bool → Ex → Path → Path
+
+  -- an object or a part of it that is assigned, with the place of its first token (Ada RM 5.2)
+  pub data Target : Type 0 where
+    target : Place → Var → Path → Target
+
+  -- what is passed for the formal parameter of a number, by its mode: the check on the way in, and that on the way back
+  pub data Actual : Type 0 where
+    pass_in : ℕ → Fit → Ex → Actual
+    pass_out : ℕ → Target → Fit → Actual
+    pass_in_out : ℕ → Target → Fit → Fit → Actual
+
+  -- actuals as they are written (Ada RM 6.4.1)
+  pub data Actuals : Type 0 where
+    no_actuals : Actuals
+    actual : Actual → Actuals → Actuals
 
   -- conditions with what each gives, and what stands after `else`
   pub data Arms : Type 0 where
     other : Ex → Arms
     arm : Ex → Ex → Arms → Arms
 
-  -- associations: the ranges of the components, whether it is `others`, and the value with its check
+  -- associations: the ranges of the components, whether it is `others`, and the value with the bounds that it is checked
+  -- against, one for each component that has a check
   pub data Assocs : Type 0 where
     no_assocs : Assocs
-    assoc : List Bounds → Bool → Fit → Ex → Assocs → Assocs
-
--- a step from an object to a part: a component of so many, or an item, with the array's bounds where its subtype fixes
--- them, whether there is an index check, and the index
-pub data Step : Type 0 where
-  to_component : ℕ → ℕ → Step
-  to_item : Option Bounds → Bool → Ex → Step
-
--- an object or a part of it that is assigned (Ada RM 5.2)
-pub record Target : Type 0 where
-  pub place : Place
-  pub var : Var
-  pub path : List Step
-
--- what is passed for the formal parameter of a number: the check on the way in, and that on the way back
-pub data Actual : Type 0 where
-  pass_in : ℕ → Fit → Ex → Actual
-  pass_out : ℕ → Target → Fit → Actual
-  pass_in_out : ℕ → Target → Fit → Fit → Actual
+    assoc : List Bounds → Bool → List Bounds → Ex → Assocs → Assocs
 
 -- an expression of a loop variant, and where it is to move (SPARK RM 5.5.3)
 pub record Way : Type 0 where
@@ -137,7 +140,7 @@ mutual
     skip : Ac
     assign : Target → Fit → Ex → Ac
     -- a call of the procedure of that number (Ada RM 6.4)
-    invoke : ℕ → List Actual → Ac
+    invoke : ℕ → Actuals → Ac
     branch : Branches → Ac
     case_of : Ex → Alternatives → Ac
     -- the loop's number, its head, and its body before, in and after the group of invariants and variant
@@ -161,15 +164,18 @@ mutual
 
   pub data Alternatives : Type 0 where
     no_alternatives : Alternatives
-    alternative : List Bounds → Bool → Sts → Alternatives → Alternatives
+    -- its choices, whether it is `others`, and its statements
+    alternative : List Choice → Bool → Sts → Alternatives → Alternatives
 
--- a formal parameter (Ada RM 6.1)
+-- a formal parameter, with the number of its subtype (Ada RM 6.1)
 pub record Formal : Type 0 where
   pub mode : Mode
-  pub shape : ℕ
+  pub subtype : ℕ
 
--- A subprogram: its parameters, contracts, variables and statements; the numbers are those of shapes. The opening is the
--- initial values of the locals as assignments, and the pragmas of the declarative part, in order. -- Ada RM 6
+-- A subprogram: its parameters, contracts, variables and statements; the numbers are those of subtypes. The opening is the
+-- initial values of the locals as assignments, and the pragmas of the declarative part, in order. Locals are numbered in
+-- order of declaration, and the parameters of `for` loops, the indexes of quantified expressions and the loops in the order
+-- of their text, which is `Pre`, `Post`, the declarative part, the statements. -- Ada RM 6
 pub record Routine : Type 0 where
   pub formals : List Formal
   pub result : Option ℕ
@@ -181,8 +187,18 @@ pub record Routine : Type 0 where
   pub opening : Sts
   pub body : Sts
 
--- a program: the shapes of its types, its global variables by their shapes, and its subprograms
+-- A subtype's type: the number of the entry that stands for it, and its class. An integer type has an entry with its base
+-- range as bounds, which stands for it and is the subtype of its operators' results; any other type's first subtype stands
+-- for it. So two subtypes are of one type where these numbers are one. -- Ada RM 3.2, 3.5.4
+pub record Kind : Type 0 where
+  pub of : ℕ
+  pub class : Class
+
+-- A program: its subtypes, declared and anonymous, each by its shape and its type; its global variables by their subtypes;
+-- and its subprograms. Globals and subprograms are numbered in the order of the files as they were named, then of their
+-- declarations; the first declaration of a subprogram counts.
 pub record Text : Type 0 where
   pub shapes : List Shape
+  pub kinds : List Kind
   pub globals : List ℕ
   pub routines : List Routine

@@ -7,6 +7,12 @@ use Rattle.ada_values.specs.declared.shapes.Shape.TheVariants as shape
 use Rattle.typed_units.specs.declared.operators.Object.{Object}
 use Rattle.typed_units.specs.declared.operators.Object.TheVariants as object
 use Rattle.typed_units.specs.declared.expressions.Fitted.{Fitted}
+use Rattle.typed_units.specs.declared.expressions.Indexed.{Indexed}
+use Rattle.typed_units.specs.declared.expressions.Step.{Step}
+use Rattle.typed_units.specs.declared.expressions.Step.TheVariants as step
+use Rattle.typed_units.specs.declared.expressions.Target.{Target}
+use Rattle.typed_units.specs.declared.expressions.Actual.{Actual}
+use Rattle.typed_units.specs.declared.expressions.Actual.TheVariants as actual
 use Rattle.typed_units.specs.declared.expressions.Argument.{Argument}
 use Rattle.typed_units.specs.declared.expressions.Arm.{Arm}
 use Rattle.typed_units.specs.declared.expressions.Association.{Association}
@@ -14,11 +20,6 @@ use Rattle.typed_units.specs.declared.expressions.ExprNode.{ExprNode}
 use Rattle.typed_units.specs.declared.expressions.ExprNode.TheVariants as node
 use Rattle.typed_units.specs.declared.expressions.Expr.{Expr, fold-Expr}
 use Rattle.typed_units.specs.declared.expressions.Expr.TheOpen.{Expr-F}
-use Rattle.typed_units.specs.declared.statements.Step.{Step}
-use Rattle.typed_units.specs.declared.statements.Step.TheVariants as step
-use Rattle.typed_units.specs.declared.statements.Target.{Target}
-use Rattle.typed_units.specs.declared.statements.Actual.{Actual}
-use Rattle.typed_units.specs.declared.statements.Actual.TheVariants as actual
 use Rattle.typed_units.specs.declared.statements.Way.{Way}
 use Rattle.typed_units.specs.declared.statements.Demand.{Demand}
 use Rattle.typed_units.specs.declared.statements.Demand.TheVariants as demand
@@ -34,7 +35,7 @@ use Rattle.typed_units.specs.declared.programs.Contract.{Contract}
 use Rattle.typed_units.specs.declared.programs.Sub.{Sub}
 use Rattle.typed_units.specs.declared.programs.Program.{Program}
 use Rattle.typed_units.specs.Syntax as text
-use Rattle.typed_units.specs.Syntax.{Var, param, local, global, turn, index, answer, present, entry, loop_entry, first, last, length_at, succ_at, pred_at, same, negation, unary, convert, component, binary, compare, item, Ex, at, Nd, static, read, op1, op2, connect, member, call, aggregate, choose, quantified, Exs, no_exs, fitted, Arms, other, arm, Assocs, no_assocs, assoc}
+use Rattle.typed_units.specs.Syntax.{Var, param, local, global, turn, index, answer, present, entry, loop_entry, first, last, length_at, succ_at, pred_at, same, negation, unary, convert, component, binary, compare, item, Ex, at, Nd, static, read, op1, op2, connect, member, call, aggregate, choose, quantified, Path, here, to_component, to_item, Actuals, no_actuals, Arms, other, arm, Assocs, no_assocs, assoc}
 
 abbrev pub var : Object → Var
 var (object.Param k) = param k
@@ -43,7 +44,7 @@ var (object.Global k) = global k
 var (object.Turn k) = turn k
 var (object.Index k) = index k
 
--- the scalar subtype of a shape's number; an empty one where it is no number
+-- the scalar subtype of a subtype's number; an empty one where it is no number
 abbrev pub scalar_in : Shape → Scalar
 scalar_in (shape.Number s) = s
 scalar_in _ = record { lo = pos 1; hi = pos 0; base_lo = pos 1; base_hi = pos 0; modulus = None }
@@ -53,9 +54,26 @@ scalar_at [] k = record { lo = pos 1; hi = pos 0; base_lo = pos 1; base_hi = pos
 scalar_at (s ∷ ss) zero = scalar_in s
 scalar_at (s ∷ ss) (suc k) = scalar_at ss k
 
-abbrev pub exs_of : List (Argument (Fitted Ex)) → Exs
-exs_of [] = no_exs
-exs_of (a ∷ as') = fitted a.formal a.value.bounds a.value.value (exs_of as')
+-- ---- objects that are assigned and passed, by what their parts are seen as
+
+abbrev pub path_of : {E : Type 0} → (E → Ex) → List (Step E) → Path
+path_of see [] = here
+path_of see (step.Component k n ∷ rest) = to_component k n (path_of see rest)
+path_of see (step.Item b i ∷ rest) = to_item b i.checked (see i.value) (path_of see rest)
+
+abbrev pub target_of : {E : Type 0} → (E → Ex) → Target E → text.Target
+target_of see t = text.target t.place (var t.object) (path_of see t.path)
+
+abbrev pub actual_of : {E : Type 0} → (E → Ex) → ℕ → Actual E → text.Actual
+actual_of see k (actual.In a) = text.pass_in k a.bounds (see a.value)
+actual_of see k (actual.Out t b) = text.pass_out k (target_of see t) b
+actual_of see k (actual.InOut t a b) = text.pass_in_out k (target_of see t) a b
+
+abbrev pub actuals_of : {E : Type 0} → (E → Ex) → List (Argument E) → Actuals
+actuals_of see [] = no_actuals
+actuals_of see (a ∷ as') = text.actual (actual_of see a.formal a.value) (actuals_of see as')
+
+-- ---- expressions
 
 abbrev pub arms_of : List (Arm Ex) → Ex → Arms
 arms_of [] e = other e
@@ -63,14 +81,14 @@ arms_of (a ∷ as') e = arm a.condition a.gives (arms_of as' e)
 
 abbrev pub assocs_of : List (Association Ex) → Assocs
 assocs_of [] = no_assocs
-assocs_of (a ∷ as') = assoc a.ranges a.others a.value.bounds a.value.value (assocs_of as')
+assocs_of (a ∷ as') = assoc a.ranges a.others a.checks a.value (assocs_of as')
 
 abbrev pub node_of : Scalar → ExprNode Ex → Nd
 node_of s (node.Static v) = static (value v)
-node_of s (node.Read o) = read present (var o)
-node_of s (node.Old o) = read entry (var o)
-node_of s (node.LoopEntry k o) = read (loop_entry k) (var o)
-node_of s node.Result = read present answer
+node_of s (node.Read p o) = read p present (var o)
+node_of s (node.Old p o) = read p entry (var o)
+node_of s (node.LoopEntry p k o) = read p (loop_entry k) (var o)
+node_of s (node.Result p) = read p present answer
 node_of s (node.First a) = op1 first a
 node_of s (node.Last a) = op1 last a
 node_of s (node.Length p a) = op1 (length_at p s) a
@@ -84,7 +102,7 @@ node_of s (node.Compare r a b) = op2 (compare r) a b
 node_of s (node.Connect c a b) = connect c a b
 node_of s (node.Member is a l h) = member is a l h
 node_of s (node.Convert b a) = op1 (convert b) a
-node_of s (node.Call q as') = call q (exs_of as')
+node_of s (node.Call p q as') = call p q (actuals_of (λ e. e) as')
 node_of s (node.Item a i) = op2 (item i.checked) a i.value
 node_of s (node.Component a k) = component k a
 node_of s (node.Aggregate c b as') = aggregate c b (assocs_of as')
@@ -92,26 +110,13 @@ node_of s (node.If as' e) = choose (arms_of as' e)
 node_of s (node.Quantified q k l h p) = quantified q k l h p
 
 abbrev pub expr_step : List Shape → Expr-F Ex → Ex
-expr_step shapes e = at e.place (node_of (scalar_at shapes e.shape) e.node)
+expr_step shapes e = at e.place e.subtype (node_of (scalar_at shapes e.subtype) e.node)
 
 -- the expression that the code's expression is, over the shapes of its program
 abbrev pub expr : List Shape → Expr → Ex
 expr shapes = fold-Expr Ex (expr_step shapes)
 
-abbrev pub step_of : List Shape → Step → text.Step
-step_of shapes (step.Component k n) = text.to_component k n
-step_of shapes (step.Item b c i) = text.to_item b c (expr shapes i)
-
-abbrev pub target : List Shape → Target → text.Target
-target shapes t = record { place = t.place; var = var t.object; path = map (step_of shapes) t.path }
-
-abbrev pub passed_for : List Shape → ℕ → Actual → text.Actual
-passed_for shapes k (actual.In a) = text.pass_in k a.bounds (expr shapes a.value)
-passed_for shapes k (actual.Out t b) = text.pass_out k (target shapes t) b
-passed_for shapes k (actual.InOut t a b) = text.pass_in_out k (target shapes t) a b
-
-abbrev pub actual_of : List Shape → Argument Actual → text.Actual
-actual_of shapes a = passed_for shapes a.formal a.value
+-- ---- statements
 
 abbrev pub way_of : List Shape → Way → text.Way
 way_of shapes w = record { direction = w.direction; value = expr shapes w.value }
@@ -139,8 +144,8 @@ alternatives_of (a ∷ rest) = text.alternative a.choices a.others (sts_of a.bod
 
 abbrev pub action_of : List Shape → Action text.St → text.Ac
 action_of shapes action.Null = text.skip
-action_of shapes (action.Assign t a) = text.assign (target shapes t) a.bounds (expr shapes a.value)
-action_of shapes (action.Call q as') = text.invoke q (map (actual_of shapes) as')
+action_of shapes (action.Assign t a) = text.assign (target_of (expr shapes) t) a.bounds (expr shapes a.value)
+action_of shapes (action.Call q as') = text.invoke q (actuals_of (expr shapes) as')
 action_of shapes (action.If bs els) = text.branch (branches_of shapes bs els)
 action_of shapes (action.Case e as') = text.case_of (expr shapes e) (alternatives_of as')
 action_of shapes (action.Loop l) = text.loop l.number (head_of shapes l.head) (sts_of l.before) (map (demand_of shapes) l.group) (sts_of l.after)
@@ -167,11 +172,11 @@ condition_of shapes (Some c) = Some (expr shapes c.condition)
 
 abbrev pub routine : List Shape → Sub → text.Routine
 routine shapes q = record {
-  formals = map (λ p. record { mode = p.mode; shape = p.shape }) q.params;
+  formals = map (λ p. record { mode = p.mode; subtype = p.subtype }) q.params;
   result = q.result;
   pre = condition_of shapes q.pre;
   post = condition_of shapes q.post;
-  locals = map (λ l. l.shape) q.locals;
+  locals = map (λ l. l.subtype) q.locals;
   turns = q.turns;
   indexes = q.indexes;
   opening = stmts shapes q.opening;
@@ -180,4 +185,9 @@ routine shapes q = record {
 
 -- the text that the code's program is
 abbrev pub text_of : Program → text.Text
-text_of p = record { shapes = p.shapes; globals = map (λ g. g.shape) p.globals; routines = map (routine p.shapes) p.subs }
+text_of p = record {
+  shapes = p.shapes;
+  kinds = map (λ t. record { of = t.of; class = t.class }) p.types;
+  globals = map (λ g. g.subtype) p.globals;
+  routines = map (routine p.shapes) p.subs;
+}

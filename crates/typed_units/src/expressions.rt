@@ -1,4 +1,4 @@
-//! Typed expressions.
+//! Typed expressions, and the objects that are assigned and passed.
 
 use crate::operators::{Bounds, Composite, Connective, Object, Quantifier, Relation};
 use ada_values::{Op, Place, Value};
@@ -19,12 +19,43 @@ pub struct Indexed<E> {
     pub value: E,
 }
 
+/// A step from an object to a part of it.
+#[derive(Drop)]
+pub enum Step<E> {
+    /// The component of this number, of so many.
+    Component(u32, u32),
+    /// An item: the array's bounds where its subtype fixes them, and the index.
+    Item(Option<Bounds>, Indexed<E>),
+}
+
+/// An object or a part of it, with the place of its first token.
+#[derive(Drop)]
+pub struct Target<E> {
+    pub place: Place,
+    pub object: Object,
+    pub path: Items<Step<E>>,
+}
+
+/// What is passed for a formal parameter, by its mode. Bounds are those of the range checks, None where there is none.
+///
+/// A function writes none of its parameters, so nothing that is passed to one is copied back: what is passed for an
+/// `in out` parameter is passed in alone, and for an `out` parameter nothing is. Their places are evaluated as those of a
+/// procedure's.
+#[derive(Drop)]
+pub enum Actual<E> {
+    In(Fitted<E>),
+    /// With the bounds on the way back.
+    Out(Target<E>, Option<Bounds>),
+    /// With the bounds on the way in, and on the way back.
+    InOut(Target<E>, Option<Bounds>, Option<Bounds>),
+}
+
 /// What is passed for a formal parameter, by the number of the formal. A call has its arguments in the order in which
 /// they are written, which is that of their evaluation (Ada RM 6.4).
 #[derive(Drop)]
-pub struct Argument<A> {
+pub struct Argument<E> {
     pub formal: u32,
-    pub value: A,
+    pub value: Actual<E>,
 }
 
 /// A condition of an if-expression, and what the expression gives where it is the first that is True.
@@ -35,19 +66,23 @@ pub struct Arm<E> {
 }
 
 /// The value of the components that lie in one of the ranges, or with `others` of all that no association before gives.
+/// It is evaluated once, and checked once for each component that has a range check, against the bounds of its subtype,
+/// at the first token of `value`: `checks` has these bounds in the order of the components. The items of an array have
+/// one subtype, and so one check or none.
 #[derive(Drop)]
 pub struct Association<E> {
     pub ranges: Items<Bounds>,
     pub others: bool,
-    pub value: Fitted<E>,
+    pub checks: Items<Bounds>,
+    pub value: E,
 }
 
-/// A typed expression: the place of its first token, the number of its subtype's shape, and what it is.
+/// A typed expression: the place of its first token, which may be a parenthesis, the number of its subtype, and what it is.
 #[derive(Drop)]
 pub struct Expr {
     pub place: Place,
-    pub shape: u32,
-    pub node: ExprNode<Expr>,
+    pub subtype: u32,
+    pub node: Boxed<ExprNode<Expr>>,
 }
 
 /// The forms of an expression over its parts, which have the type `E`.
@@ -55,42 +90,43 @@ pub struct Expr {
 pub enum ExprNode<E> {
     /// A static expression, by its exact value (Ada RM 4.9).
     Static(Value),
-    Read(Object),
-    /// `X'Old`: the value on entry to the subprogram.
-    Old(Object),
-    /// `X'Loop_Entry`: the value on entry to the loop of this number.
-    LoopEntry(u32, Object),
-    /// `F'Result`.
-    Result,
-    First(Boxed<E>),
-    Last(Boxed<E>),
+    /// An object, with the place of its name.
+    Read(Place, Object),
+    /// `X'Old`: the value on entry to the subprogram, with the place of the object's name.
+    Old(Place, Object),
+    /// `X'Loop_Entry`: the value on entry to the loop of this number, with the place of the object's name.
+    LoopEntry(Place, u32, Object),
+    /// `F'Result`, with its place.
+    Result(Place),
+    First(E),
+    Last(E),
     /// `'Length`, with the place of its tick.
-    Length(Place, Boxed<E>),
+    Length(Place, E),
     /// `'Succ`, with the place of its tick.
-    Succ(Place, Boxed<E>),
+    Succ(Place, E),
     /// `'Pred`, with the place of its tick.
-    Pred(Place, Boxed<E>),
+    Pred(Place, E),
     /// Unary `+`, or `'Pos`.
-    Same(Boxed<E>),
-    Not(Boxed<E>),
+    Same(E),
+    Not(E),
     /// Unary `-` or `abs`, with the operator's place.
-    Unary(Place, Op, Boxed<E>),
+    Unary(Place, Op, E),
     /// An operator of two operands, with its place. The range check of an exponent stands at the right operand.
-    Binary(Place, Op, Boxed<E>, Boxed<E>),
-    Compare(Relation, Boxed<E>, Boxed<E>),
-    Connect(Connective, Boxed<E>, Boxed<E>),
+    Binary(Place, Op, E, E),
+    Compare(Relation, E, E),
+    Connect(Connective, E, E),
     /// Whether a number lies within two bounds: `in` for true, `not in` for false.
-    Member(bool, Boxed<E>, Boxed<E>, Boxed<E>),
+    Member(bool, E, E, E),
     /// A conversion, a qualification or `'Val`. The bounds are those that the operand is checked against.
-    Convert(Option<Bounds>, Boxed<E>),
-    /// A function call. The precondition's check stands at the expression's first token.
-    Call(u32, Items<Argument<Fitted<E>>>),
-    Item(Boxed<E>, Indexed<Boxed<E>>),
+    Convert(Option<Bounds>, E),
+    /// A function call, with the place of the function's name, where the precondition's check stands.
+    Call(Place, u32, Items<Argument<E>>),
+    Item(E, Indexed<E>),
     /// A record's component, by its number.
-    Component(Boxed<E>, u32),
+    Component(E, u32),
     /// An aggregate, with the numbers of its components.
     Aggregate(Composite, Bounds, Items<Association<E>>),
-    If(Items<Arm<E>>, Boxed<E>),
+    If(Items<Arm<E>>, E),
     /// A quantified expression: the number of its index, the bounds, and the predicate.
-    Quantified(Quantifier, u32, Boxed<E>, Boxed<E>, Boxed<E>),
+    Quantified(Quantifier, u32, E, E, E),
 }

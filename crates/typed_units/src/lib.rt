@@ -7,14 +7,15 @@ mod operators;
 mod programs;
 mod statements;
 
-pub use checks::{CheckKind, SiteKey};
-pub use expressions::{Argument, Arm, Association, Expr, ExprNode, Fitted, Indexed};
+pub use checks::{CheckKind, SiteKey, laws_of_sites, same_site};
+pub use expressions::{
+    Actual, Argument, Arm, Association, Expr, ExprNode, Fitted, Indexed, Step, Target,
+};
 pub use operators::{Bounds, Composite, Connective, Object, Quantifier, Relation};
 pub use programs::{
-    Contract, Global, GlobalAspect, GlobalItem, GlobalMode, Inputs, Local, Mode, Param, Program,
-    SlotList, Sub, Type,
+    Class, Contract, Global, GlobalAspect, GlobalItem, GlobalMode, Inputs, Local, Mode, Param,
+    Program, SlotList, Sub, SubtypeIds, Type,
 };
 pub use statements::{
-    Action, Actual, Alternative, Branch, Demand, Direction, Head, LoopParts, Step, Stmt, Target,
-    Way,
+    Action, Alternative, Branch, Choice, Demand, Direction, Head, LoopParts, Stmt, Way,
 };

@@ -2,24 +2,43 @@
 
 use crate::expressions::Expr;
 use crate::statements::Stmt;
-use ada_values::{ItemList, NameText, Place, ShapeIds, ShapeList, Value};
+use ada_values::{ItemList, NameText, Place, ShapeList, Value};
 use sqlite_items::Items;
 
 /// The values of variables; None where nothing was ever set.
 pub type SlotList = Items<Option<Value>>;
 
-/// A named type or subtype, with the number of its shape.
-#[derive(Drop)]
-pub struct Type {
-    pub name: NameText,
-    pub shape: u32,
+/// The class of a type (Ada RM 3.2). An array has the number of its index subtype.
+#[derive(Clone, Copy, Debug, PartialEq, Eq)]
+pub enum Class {
+    /// A signed integer type.
+    Signed,
+    Modular,
+    /// An enumeration other than `Boolean`.
+    Enumeration,
+    Boolean,
+    Array(u32),
+    Record,
 }
 
-/// A variable that a package declares, by its full name, with its initial value where it has one.
+/// A subtype: its name as it was declared, None where it is anonymous, and its type.
+///
+/// `of` is the number of the entry that stands for the type. An integer type has an anonymous entry with its base range as
+/// bounds, right before its first subtype, which stands for it and is the subtype of its operators' results. Any other
+/// type's first subtype stands for it. So two subtypes are of one type exactly where these numbers are one.
+#[derive(Drop)]
+pub struct Type {
+    pub name: Option<NameText>,
+    pub of: u32,
+    pub class: Class,
+}
+
+/// A variable that a package declares, by its full name, with the number of its subtype, and its initial value where it
+/// has one.
 #[derive(Drop)]
 pub struct Global {
     pub name: NameText,
-    pub shape: u32,
+    pub subtype: u32,
     pub initial: Option<Value>,
 }
 
@@ -31,18 +50,19 @@ pub enum Mode {
     InOut,
 }
 
+/// A formal parameter, with the number of its subtype.
 #[derive(Drop)]
 pub struct Param {
     pub name: NameText,
     pub mode: Mode,
-    pub shape: u32,
+    pub subtype: u32,
 }
 
-/// A local object. Its initial value is an assignment of the subprogram's opening.
+/// A local object, with the number of its subtype. Its initial value is an assignment of the subprogram's opening.
 #[derive(Drop)]
 pub struct Local {
     pub name: NameText,
-    pub shape: u32,
+    pub subtype: u32,
     pub constant: bool,
 }
 
@@ -74,22 +94,28 @@ pub struct GlobalAspect {
     pub items: Items<GlobalItem>,
 }
 
+/// The numbers of subtypes.
+pub type SubtypeIds = Items<u32>;
+
 /// A subprogram, with the place of its name in its body.
+///
+/// Its locals are numbered in order of declaration. The parameters of its `for` loops, the indexes of its quantified
+/// expressions and its loops are numbered in the order of their text: `Pre`, `Post`, the declarative part, the statements.
 #[derive(Drop)]
 pub struct Sub {
     pub name: NameText,
     pub place: Place,
     pub params: Items<Param>,
-    /// The number of the result's shape, of a function alone.
+    /// The number of the result's subtype, of a function alone.
     pub result: Option<u32>,
     pub pre: Option<Contract>,
     pub post: Option<Contract>,
     pub global: Option<GlobalAspect>,
     pub locals: Items<Local>,
-    /// The shapes of the parameters of its `for` loops.
-    pub turns: ShapeIds,
-    /// The shapes of the indexes of its quantified expressions.
-    pub indexes: ShapeIds,
+    /// The subtypes of the parameters of its `for` loops.
+    pub turns: SubtypeIds,
+    /// The subtypes of the indexes of its quantified expressions.
+    pub indexes: SubtypeIds,
     /// How many loops it has.
     pub loops: u32,
     /// The initial values of the local objects as assignments, and the pragmas of the declarative part, in order.
@@ -98,6 +124,10 @@ pub struct Sub {
 }
 
 /// A typed program.
+///
+/// Its subtypes are numbered: `shapes` has the values of each, and `types`, of the same length, its name and its type.
+/// Globals and subprograms stand in the order of the files as they were named, then of their declarations; the first
+/// declaration of a subprogram counts.
 #[derive(Drop)]
 pub struct Program {
     pub shapes: ShapeList,

@@ -1,36 +1,9 @@
 //! Typed statements.
 
-use crate::expressions::{Argument, Expr, Fitted};
-use crate::operators::{Bounds, Object};
+use crate::expressions::{Argument, Expr, Fitted, Target};
+use crate::operators::Bounds;
 use ada_values::Place;
-use sqlite_items::Items;
-
-/// A step from an object to a part of it.
-#[derive(Drop)]
-pub enum Step {
-    /// The component of this number, of so many.
-    Component(u32, u32),
-    /// An item: the array's bounds where its subtype fixes them, whether there is an index check, and the index.
-    Item(Option<Bounds>, bool, Expr),
-}
-
-/// An object or a part of it, with the place of its first token.
-#[derive(Drop)]
-pub struct Target {
-    pub place: Place,
-    pub object: Object,
-    pub path: Items<Step>,
-}
-
-/// What is passed for a formal parameter, by its mode. Bounds are those of the range checks, None where there is none.
-#[derive(Drop)]
-pub enum Actual {
-    In(Fitted<Expr>),
-    /// With the bounds on the way back.
-    Out(Target, Option<Bounds>),
-    /// With the bounds on the way in, and on the way back.
-    InOut(Target, Option<Bounds>, Option<Bounds>),
-}
+use sqlite_items::{Boxed, Items};
 
 /// Which way an expression of a loop variant is to move.
 #[derive(Clone, Copy, Debug, PartialEq, Eq)]
@@ -70,10 +43,17 @@ pub struct Branch<S> {
     pub body: Items<S>,
 }
 
-/// An alternative of a `case`: the ranges of its choices, or `others`, and its statements.
+/// A choice of a `case`: a value, or a range, which a subtype's name may stand for.
+#[derive(Clone, Copy, Debug, PartialEq, Eq)]
+pub enum Choice {
+    Value(i128),
+    Range(Bounds),
+}
+
+/// An alternative of a `case`: its choices, or `others`, and its statements.
 #[derive(Drop)]
 pub struct Alternative<S> {
-    pub choices: Items<Bounds>,
+    pub choices: Items<Choice>,
     pub others: bool,
     pub body: Items<S>,
 }
@@ -93,7 +73,7 @@ pub struct LoopParts<S> {
 #[derive(Drop)]
 pub struct Stmt {
     pub place: Place,
-    pub action: Action<Stmt>,
+    pub action: Boxed<Action<Stmt>>,
 }
 
 /// The forms of a statement over its inner statements, which have the type `S`.
@@ -101,9 +81,9 @@ pub struct Stmt {
 pub enum Action<S> {
     Null,
     /// An assignment, or the initial value of a local object.
-    Assign(Target, Fitted<Expr>),
+    Assign(Target<Expr>, Fitted<Expr>),
     /// A procedure call. The precondition's check stands at the statement's first token.
-    Call(u32, Items<Argument<Actual>>),
+    Call(u32, Items<Argument<Expr>>),
     If(Items<Branch<S>>, Items<S>),
     Case(Expr, Items<Alternative<S>>),
     Loop(LoopParts<S>),

@@ -64,7 +64,7 @@ pub record Input (shapes : List Shape) (p : Formal) (ps : List Formal) (k : ℕ)
   pub scalar : Scalar
   pub others : Tree
   pub is_input : in_mode p.mode ≡ true
-  pub scalar_is : scalar_of (slice_get shapes p.shape) ≡ Some scalar
+  pub scalar_is : scalar_of (slice_get shapes p.subtype) ≡ Some scalar
   pub others_are : inputs shapes ps (suc k) rest ≡ Some others
   pub tree_is : tree.any k numbers (any_role.Input k) (tree.assume (bounds_of scalar (node.sym k)) others) ≡ t
 
@@ -74,7 +74,7 @@ in_is mode.Out h = cc
 in_is mode.InOut h = cc
 
 input_parts : (shapes : List Shape) (p : Formal) (ps : List Formal) (k : ℕ) (rest t : Tree) (o : Option Tree) (b : Bool) (s : Option Scalar)
-    → inputs shapes ps (suc k) rest ≡ o → is_in p.mode ≡ b → scalar_of (slice_get shapes p.shape) ≡ s
+    → inputs shapes ps (suc k) rest ≡ o → is_in p.mode ≡ b → scalar_of (slice_get shapes p.subtype) ≡ s
     → and_then o (λ u. if b then and_then s (λ a. Some (tree.any k numbers (any_role.Input k) (tree.assume (bounds_of a (node.sym k)) u))) else None) ≡ Some t
     → Input shapes p ps k rest t
 input_parts shapes p ps k rest t None b s d e f h = none_some t h
@@ -85,7 +85,7 @@ input_parts shapes p ps k rest t (Some u) true (Some a) d e f h =
 
 parts_of : (shapes : List Shape) (p : Formal) (ps : List Formal) (k : ℕ) (rest t : Tree) → inputs shapes (p ∷ ps) k rest ≡ Some t → Input shapes p ps k rest t
 parts_of shapes p ps k rest t h =
-    input_parts shapes p ps k rest t (inputs shapes ps (suc k) rest) (is_in p.mode) (scalar_of (slice_get shapes p.shape)) refl refl refl h
+    input_parts shapes p ps k rest t (inputs shapes ps (suc k) rest) (is_in p.mode) (scalar_of (slice_get shapes p.subtype)) refl refl refl h
 
 pub both_true : (a b : Bool) → (a && b) ≡ true → (a ≡ true) × (b ≡ true)
 both_true true b h = (refl, h)
@@ -98,12 +98,12 @@ pub record Fitting (shapes : List Shape) (p : Formal) (ps : List Formal) (s : Sc
   pub number : Number s value
   pub others_fit : params_fit shapes ps (rest_of vs) ≡ true
 
-first_fits : (shapes : List Shape) (p : Formal) (ps : List Formal) (s : Scalar) → scalar_of (slice_get shapes p.shape) ≡ Some s → (vs : List ada.Val) (o : Option ada.Val)
+first_fits : (shapes : List Shape) (p : Formal) (ps : List Formal) (s : Scalar) → scalar_of (slice_get shapes p.subtype) ≡ Some s → (vs : List ada.Val) (o : Option ada.Val)
     → first_of vs ≡ o → (param_fits shapes p o && params_fit shapes ps (rest_of vs)) ≡ true → Fitting shapes p ps s vs
 first_fits shapes p ps s t vs None e h = cc
 first_fits shapes p ps s t vs (Some v) e h =
     let b = both_true (param_fits shapes p (Some v)) (params_fit shapes ps (rest_of vs)) h in
-    record { value = v; first_is = e; number = scalar_value shapes (slice_get shapes p.shape) s t v b.0; others_fit = b.1 }
+    record { value = v; first_is = e; number = scalar_value shapes (slice_get shapes p.subtype) s t v b.0; others_fit = b.1 }
 
 fitting : (shapes : List Shape) (p : Formal) (ps : List Formal) (k : ℕ) (rest t : Tree) (a : Input shapes p ps k rest t) (vs : List ada.Val)
     → params_fit shapes (p ∷ ps) vs ≡ true → Fitting shapes p ps a.scalar vs

@@ -48,19 +48,19 @@ read_term f w g x a h v e = none_some a h
 
 pub term_value : (calls : Calls) (f : Frame) (w : World) → Agree f w → (e : Ex) (a : Node) → term_of symbol_of e ≡ Some a
     → (n : ℕ) (v : ada.Val) (m : ℕ) → value_of calls e f n ≡ gives v m → Same w v a
-term_value calls f w g (at p x) a t zero v m h = short_gives v m h
-term_value calls f w g (at p (static (ada.number x))) a t (suc n) v m h =
+term_value calls f w g (at p z x) a t zero v m h = short_gives v m h
+term_value calls f w g (at p z (static (ada.number x))) a t (suc n) v m h =
     record { size = x; value_is = cc; term_is = let s : node.num x ≡ a = cc in ap (meaning w []) (sym s) }
-term_value calls f w g (at p (read present x)) a t (suc n) v m h =
+term_value calls f w g (at p z (read b present x)) a t (suc n) v m h =
     read_term f w g x a t v (wanted_gives (whole (f.state x)) n v m h)
-term_value calls f w g (at p x) a t (suc n) v m h = none_some a t
+term_value calls f w g (at p z x) a t (suc n) v m h = none_some a t
 
 pub term_never_fails : (calls : Calls) (f : Frame) (e : Ex) (a : Node) → term_of symbol_of e ≡ Some a
     → (n : ℕ) (c : SiteKey) → value_of calls e f n ≡ fails c → ⊥
-term_never_fails calls f (at p x) a t zero c h = short_fails c h
-term_never_fails calls f (at p (static (ada.number x))) a t (suc n) c h = cc
-term_never_fails calls f (at p (read present x)) a t (suc n) c h = wanted_never_fails (whole (f.state x)) n c h
-term_never_fails calls f (at p x) a t (suc n) c h = none_some a t
+term_never_fails calls f (at p z x) a t zero c h = short_fails c h
+term_never_fails calls f (at p z (static (ada.number x))) a t (suc n) c h = cc
+term_never_fails calls f (at p z (read b present x)) a t (suc n) c h = wanted_never_fails (whole (f.state x)) n c h
+term_never_fails calls f (at p z x) a t (suc n) c h = none_some a t
 
 -- ---- comparisons
 
@@ -117,8 +117,8 @@ two_terms t r a b p None y e f h = none_some p h
 two_terms t r a b p (Some c) None e f h = none_some p h
 two_terms t r a b p (Some c) (Some d) e f h = record { left = c; right = d; left_is = e; right_is = f; formula_is = cc }
 
-both_terms : (t : Var → Option Node) (p : Place) (r : Relation) (a b : Ex) (q : Node) → formula_of t (at p (op2 (compare r) a b)) ≡ Some q → Both t r a b q
-both_terms t p r a b q h = two_terms t r a b q (term_of t a) (term_of t b) refl refl h
+both_terms : (t : Var → Option Node) (p : Place) (z : ℕ) (r : Relation) (a b : Ex) (q : Node) → formula_of t (at p z (op2 (compare r) a b)) ≡ Some q → Both t r a b q
+both_terms t p z r a b q h = two_terms t r a b q (term_of t a) (term_of t b) refl refl h
 
 compared : (w : World) (r : Relation) (u v : ada.Val) (a b : Node) (n : ℕ) → Same w u a → Same w v b → (x : ada.Val) (m : ℕ)
     → run.related r u v n ≡ gives x m → Truth w x (related r a b)
@@ -134,18 +134,18 @@ retold {w = w} e t = record { flag = t.flag; value_is = t.value_is; holds_is = a
 
 pub formula_value : (calls : Calls) (f : Frame) (w : World) → Agree f w → (e : Ex) (q : Node) → formula_of symbol_of e ≡ Some q
     → (n : ℕ) (v : ada.Val) (m : ℕ) → value_of calls e f n ≡ gives v m → Truth w v q
-formula_value calls f w g (at p x) q t zero v m h = short_gives v m h
-formula_value calls f w g (at p (static (ada.truth b))) q t (suc n) v m h =
+formula_value calls f w g (at p z x) q t zero v m h = short_gives v m h
+formula_value calls f w g (at p z (static (ada.truth b))) q t (suc n) v m h =
     record { flag = b; value_is = cc; holds_is = let s : node.flag b ≡ q = cc in ap (holds w []) (sym s) }
-formula_value calls f w g (at p (op2 (compare r) a b)) q t (suc n) v m h =
-    let s = both_terms symbol_of p r a b q t in
+formula_value calls f w g (at p z (op2 (compare r) a b)) q t (suc n) v m h =
+    let s = both_terms symbol_of p z r a b q t in
     let first = bind_gives (value_of calls a f n) (λ u k. bind (value_of calls b f k) (λ x j. run.related r u x j)) v m h in
     let second = bind_gives (value_of calls b f first.left) (λ x j. run.related r first.value x j) v m first.then_ in
     retold s.formula_is (compared w r first.value second.value s.left s.right second.left
     (term_value calls f w g a s.left s.left_is n first.value first.left first.first)
     (term_value calls f w g b s.right s.right_is first.left second.value second.left second.first)
     v m second.then_)
-formula_value calls f w g (at p x) q t (suc n) v m h = none_some q t
+formula_value calls f w g (at p z x) q t (suc n) v m h = none_some q t
 
 related_never_fails : (w : World) (r : Relation) (u v : ada.Val) (a b : Node) (n : ℕ) → Same w u a → Same w v b → (c : SiteKey)
     → run.related r u v n ≡ fails c → ⊥
@@ -155,10 +155,10 @@ related_never_fails w r u v a b n s t c h =
 
 pub formula_never_fails : (calls : Calls) (f : Frame) (w : World) → Agree f w → (e : Ex) (q : Node) → formula_of symbol_of e ≡ Some q
     → (n : ℕ) (c : SiteKey) → value_of calls e f n ≡ fails c → ⊥
-formula_never_fails calls f w g (at p x) q t zero c h = short_fails c h
-formula_never_fails calls f w g (at p (static (ada.truth b))) q t (suc n) c h = cc
-formula_never_fails calls f w g (at p (op2 (compare r) a b)) q t (suc n) c h =
-    let s = both_terms symbol_of p r a b q t in
+formula_never_fails calls f w g (at p z x) q t zero c h = short_fails c h
+formula_never_fails calls f w g (at p z (static (ada.truth b))) q t (suc n) c h = cc
+formula_never_fails calls f w g (at p z (op2 (compare r) a b)) q t (suc n) c h =
+    let s = both_terms symbol_of p z r a b q t in
     elim (bind_fails (value_of calls a f n) (λ u k. bind (value_of calls b f k) (λ x j. run.related r u x j)) c h) [
       | inl e ↦ term_never_fails calls f a s.left s.left_is n c e
       | inr first ↦ elim (bind_fails (value_of calls b f first.left) (λ x j. run.related r first.value x j) c first.then_) [
@@ -169,4 +169,4 @@ formula_never_fails calls f w g (at p (op2 (compare r) a b)) q t (suc n) c h =
             c second.then_
       ]
     ]
-formula_never_fails calls f w g (at p x) q t (suc n) c h = none_some q t
+formula_never_fails calls f w g (at p z x) q t (suc n) c h = none_some q t

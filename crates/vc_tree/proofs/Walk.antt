@@ -134,12 +134,12 @@ checked_gives w f p q v n s m t h = told t.flag t.holds_is (rw t.value_is at h)
     told true e g = record { stays = cc; is_true = e }
     told false e g = cc
 
-step_gives : (calls : Calls) (f : Frame) (w : World) → Agree f w → (r p : Place) (x : Nd) (q : Node) → formula_of symbol_of (at p x) ≡ Some q
-    → (n : ℕ) (s : Stop) (m : ℕ) → step_of calls (st r (assert (at p x))) f n ≡ gives s m → Held w f q s
-step_gives calls f w g r p x q t zero s m h = short_gives s m h
-step_gives calls f w g r p x q t (suc n) s m h =
-    let o = bind_gives (value_of calls (at p x) f n) (λ v k. truth_of v (λ b. check b p check_kind.Assert (gives (goes f) k))) s m h in
-    checked_gives w f p q o.value o.left s m (formula_value calls f w g (at p x) q t n o.value o.left o.first) o.then_
+step_gives : (calls : Calls) (f : Frame) (w : World) → Agree f w → (r p : Place) (z : ℕ) (x : Nd) (q : Node) → formula_of symbol_of (at p z x) ≡ Some q
+    → (n : ℕ) (s : Stop) (m : ℕ) → step_of calls (st r (assert (at p z x))) f n ≡ gives s m → Held w f q s
+step_gives calls f w g r p z x q t zero s m h = short_gives s m h
+step_gives calls f w g r p z x q t (suc n) s m h =
+    let o = bind_gives (value_of calls (at p z x) f n) (λ v k. truth_of v (λ b. check b p check_kind.Assert (gives (goes f) k))) s m h in
+    checked_gives w f p q o.value o.left s m (formula_value calls f w g (at p z x) q t n o.value o.left o.first) o.then_
 
 -- an assertion failed: at its site, with a condition that was False
 pub record Broke (w : World) (p : Place) (q : Node) (c : SiteKey) : Type 0 where
@@ -154,41 +154,41 @@ checked_fails w f p q v n c t h = told t.flag t.holds_is (rw t.value_is at h)
     told true e g = cc
     told false e g = record { there = cc; is_false = e }
 
-step_fails : (calls : Calls) (f : Frame) (w : World) → Agree f w → (r p : Place) (x : Nd) (q : Node) → formula_of symbol_of (at p x) ≡ Some q
-    → (n : ℕ) (c : SiteKey) → step_of calls (st r (assert (at p x))) f n ≡ fails c → Broke w p q c
-step_fails calls f w g r p x q t zero c h = short_fails c h
-step_fails calls f w g r p x q t (suc n) c h =
-    elim (bind_fails (value_of calls (at p x) f n) (λ v k. truth_of v (λ b. check b p check_kind.Assert (gives (goes f) k))) c h) [
-      | inl e ↦ absurd (formula_never_fails calls f w g (at p x) q t n c e)
-      | inr o ↦ checked_fails w f p q o.value o.left c (formula_value calls f w g (at p x) q t n o.value o.left o.first) o.then_
+step_fails : (calls : Calls) (f : Frame) (w : World) → Agree f w → (r p : Place) (z : ℕ) (x : Nd) (q : Node) → formula_of symbol_of (at p z x) ≡ Some q
+    → (n : ℕ) (c : SiteKey) → step_of calls (st r (assert (at p z x))) f n ≡ fails c → Broke w p q c
+step_fails calls f w g r p z x q t zero c h = short_fails c h
+step_fails calls f w g r p z x q t (suc n) c h =
+    elim (bind_fails (value_of calls (at p z x) f n) (λ v k. truth_of v (λ b. check b p check_kind.Assert (gives (goes f) k))) c h) [
+      | inl e ↦ absurd (formula_never_fails calls f w g (at p z x) q t n c e)
+      | inr o ↦ checked_fails w f p q o.value o.left c (formula_value calls f w g (at p z x) q t n o.value o.left o.first) o.then_
     ]
 
 -- the parts of the tree of an assertion
-pub record Asserted (p : Place) (x : Nd) (rest : Sts) (u : Tree) : Type 0 where
+pub record Asserted (p : Place) (z : ℕ) (x : Nd) (rest : Sts) (u : Tree) : Type 0 where
   pub formula : Node
   pub others : Tree
-  pub formula_is : formula_of symbol_of (at p x) ≡ Some formula
+  pub formula_is : formula_of symbol_of (at p z x) ≡ Some formula
   pub others_are : statements symbol_of rest ≡ Some others
   pub tree_is : tree.check (site p check_kind.Assert) formula others ≡ u
 
-asserted : (p : Place) (x : Nd) (rest : Sts) (u : Tree) (o : Option Node) (t : Option Tree) → formula_of symbol_of (at p x) ≡ o → statements symbol_of rest ≡ t
-    → and_then o (λ f. and_then t (λ v. Some (tree.check (site p check_kind.Assert) f v))) ≡ Some u → Asserted p x rest u
-asserted p x rest u None t e d h = none_some u h
-asserted p x rest u (Some f) None e d h = none_some u h
-asserted p x rest u (Some f) (Some v) e d h = record { formula = f; others = v; formula_is = e; others_are = d; tree_is = cc }
+asserted : (p : Place) (z : ℕ) (x : Nd) (rest : Sts) (u : Tree) (o : Option Node) (t : Option Tree) → formula_of symbol_of (at p z x) ≡ o → statements symbol_of rest ≡ t
+    → and_then o (λ f. and_then t (λ v. Some (tree.check (site p check_kind.Assert) f v))) ≡ Some u → Asserted p z x rest u
+asserted p z x rest u None t e d h = none_some u h
+asserted p z x rest u (Some f) None e d h = none_some u h
+asserted p z x rest u (Some f) (Some v) e d h = record { formula = f; others = v; formula_is = e; others_are = d; tree_is = cc }
 
 -- the walk along a list of assertions
 pub walk : (calls : Calls) (f : Frame) (w : World) → Agree f w → IsNumeric w → (ss : Sts) (u : Tree) → statements symbol_of ss ≡ Some u
     → (n : ℕ) (c : SiteKey) → run_of calls ss f n ≡ fails c → (y : Way) → MetNumbers y → AllHold w y.hypotheses → ValidAt c (goals_from [] y u) → ⊥
 walk calls f w g i done u t n c h y m a valid = cc
-walk calls f w g i (text.then (st r (assert (at p x))) rest) u t n c h y m a valid =
-    let s = asserted p x rest u (formula_of symbol_of (at p x)) (statements symbol_of rest) refl refl t in
+walk calls f w g i (text.then (st r (assert (at p z x))) rest) u t n c h y m a valid =
+    let s = asserted p z x rest u (formula_of symbol_of (at p z x)) (statements symbol_of rest) refl refl t in
     let v = subst (λ (z : Tree). ValidAt c (goals_from [] y z)) (sym s.tree_is) valid in
-    elim (bind_fails (step_of calls (st r (assert (at p x))) f n) (next (run_of calls rest)) c h) [
-      | inl e ↦ let b = step_fails calls f w g r p x s.formula s.formula_is n c e in
+    elim (bind_fails (step_of calls (st r (assert (at p z x))) f n) (next (run_of calls rest)) c h) [
+      | inl e ↦ let b = step_fails calls f w g r p z x s.formula s.formula_is n c e in
           let k = goal_holds w y (site p check_kind.Assert) s.formula i m a (v.0 b.there) in
           let d = b.is_false in cc
-      | inr o ↦ let b = step_gives calls f w g r p x s.formula s.formula_is n o.value o.left o.first in
+      | inr o ↦ let b = step_gives calls f w g r p z x s.formula s.formula_is n o.value o.left o.first in
           walk calls f w g i rest s.others s.others_are o.left c (rw b.stays at o.then_) (learn y s.formula) m
           (AllHold-append w y.hypotheses s.formula a b.is_true) v.1
     ]

@@ -42,13 +42,13 @@ related relation.AtLeast a b = at_most b a
 
 -- the term of an expression, where the objects that are built have one
 abbrev pub term_of : (Var → Option Node) → Ex → Option Node
-term_of t (at p (static (ada.number x))) = Some (node.num x)
-term_of t (at p (read present x)) = t x
+term_of t (at p z (static (ada.number x))) = Some (node.num x)
+term_of t (at p z (read b present x)) = t x
 term_of t _ = None
 
 abbrev pub formula_of : (Var → Option Node) → Ex → Option Node
-formula_of t (at p (static (ada.truth b))) = Some (node.flag b)
-formula_of t (at p (op2 (compare r) a b)) = and_then (term_of t a) (λ x. and_then (term_of t b) (λ y. Some (related r x y)))
+formula_of t (at p z (static (ada.truth b))) = Some (node.flag b)
+formula_of t (at p z (op2 (compare r) a b)) = and_then (term_of t a) (λ x. and_then (term_of t b) (λ y. Some (related r x y)))
 formula_of t _ = None
 
 -- ---- statements
@@ -60,8 +60,8 @@ is_done _ = false
 -- an assertion is its check, before what follows it
 abbrev pub statements : (Var → Option Node) → Sts → Option Tree
 statements t done = Some tree.done
-statements t (text.then (st q (assert (at p x))) rest) =
-    and_then (formula_of t (at p x)) (λ f. and_then (statements t rest) (λ u. Some (tree.check (site p kind.Assert) f u)))
+statements t (text.then (st q (assert (at p z x))) rest) =
+    and_then (formula_of t (at p z x)) (λ f. and_then (statements t rest) (λ u. Some (tree.check (site p kind.Assert) f u)))
 statements t _ = None
 
 -- ---- subprograms
@@ -82,7 +82,7 @@ is_in _ = false
 abbrev pub input : List Shape → Formal → ℕ → Tree → Option Tree
 input shapes p k rest =
     if is_in p.mode
-    then and_then (scalar_of (slice_get shapes p.shape)) (λ s. Some (tree.any k numbers (any_role.Input k) (tree.assume (bounds_of s (node.sym k)) rest)))
+    then and_then (scalar_of (slice_get shapes p.subtype)) (λ s. Some (tree.any k numbers (any_role.Input k) (tree.assume (bounds_of s (node.sym k)) rest)))
     else None
 
 abbrev pub inputs : List Shape → List Formal → ℕ → Tree → Option Tree

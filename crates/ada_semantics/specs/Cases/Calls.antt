@@ -1,7 +1,7 @@
 -- Sample programs with calls and contracts.
 use Rattle.std.specs.Prelude.{ℕ, true, [], ◌∷◌, Some, None, pos}
-use Rattle.typed_units.specs.Syntax.{Var, param, local, global, answer, entry, present, Fit, Ex, at, read, call, no_exs, fitted, Actual, pass_in, pass_out, pass_in_out, to_item, st, skip, Routine, Text}
-use Rattle.ada_semantics.specs.Cases.{place, to, num, name, plus, minus, times, equal, greater, whole_of, part_of, set_to, call_of, claim, give_back, if_so, natural, by_in, by_out, by_in_out, procedure_of, function_of, with_pre, with_post, program, one}
+use Rattle.typed_units.specs.Syntax.{Var, param, local, global, answer, entry, present, Fit, Ex, read, call, no_actuals, actual, Actual, pass_in, pass_out, pass_in_out, to_item, st, skip, Routine, Text}
+use Rattle.ada_semantics.specs.Cases.{ex, place, to, num, name, plus, minus, times, equal, greater, whole_of, part_of, set_to, call_of, claim, give_back, if_so, natural, by_in, by_out, by_in_out, procedure_of, function_of, with_pre, with_post, program, one}
 
 -- an actual of mode `in`, `out` and `in out`, for the parameter k
 abbrev pub passing : ℕ → Fit → Ex → Actual
@@ -15,7 +15,7 @@ lending k l c x inward back = pass_in_out k (whole_of l c x) inward back
 
 -- a call of the function q with one argument
 abbrev pub result_at : ℕ → ℕ → ℕ → Fit → Ex → Ex
-result_at l c q fit e = at (place l c) (call q (fitted 0 fit e no_exs))
+result_at l c q fit e = ex (place l c) (call (place l c) q (actual (passing 0 fit e) no_actuals))
 
 --  1  package body Lower is
 --  2     procedure Low (N : in out Integer) is
@@ -80,7 +80,7 @@ weak x = program
 --  3     X := X + D;
 --  4  end Inc;
 abbrev pub inc_by : Text
-inc_by = one (with_post (equal (name 1 65 (param 0)) (plus 1 75 (at (place 1 69) (read entry (param 0))) (num 1 77 1)))
+inc_by = one (with_post (equal (name 1 65 (param 0)) (plus 1 75 (ex (place 1 69) (read (place 1 69) entry (param 0))) (num 1 77 1)))
     (procedure_of (by_in_out ∷ by_in ∷ []) (set_to 3 4 (param 0) None (plus 3 11 (name 3 9 (param 0)) (name 3 13 (param 1))) ∷ [])))
 
 --  1  function More (X, D : Integer) return Integer with Post => More'Result > X is
@@ -88,7 +88,7 @@ inc_by = one (with_post (equal (name 1 65 (param 0)) (plus 1 75 (at (place 1 69)
 --  3     return X + D;
 --  4  end More;
 abbrev pub more : Text
-more = one (with_post (greater (at (place 1 60) (read present answer)) (name 1 74 (param 0)))
+more = one (with_post (greater (ex (place 1 60) (read (place 1 60) present answer)) (name 1 74 (param 0)))
     (function_of (by_in ∷ by_in ∷ []) (give_back 3 4 None (plus 3 13 (name 3 11 (param 0)) (name 3 15 (param 1))) ∷ [])))
 
 --  1  procedure Low (X : in Integer) with Pre => X + 1 > 0 is
@@ -169,6 +169,7 @@ down = one (function_of (by_in ∷ []) (give_back 3 4 natural (minus 3 13 (name 
 abbrev pub count : Text
 count = record {
   shapes = [];
+  kinds = [];
   globals = 0 ∷ [];
   routines =
       procedure_of [] (set_to 4 7 (global 0) None (plus 4 14 (name 4 12 (global 0)) (num 4 16 1)) ∷ [])
@@ -215,6 +216,7 @@ positional = program (pair ∷ procedure_of (by_in ∷ by_in ∷ by_out ∷ by_o
 abbrev pub moved_index : Text
 moved_index = record {
   shapes = [];
+  kinds = [];
   globals = 0 ∷ [];
   routines =
       procedure_of (by_out ∷ []) (set_to 4 7 (param 0) None (num 4 12 7) ∷ set_to 5 7 (global 0) None (num 5 12 3) ∷ [])

@@ -1,11 +1,12 @@
 -- Sample programs on expressions.
 use Rattle.std.specs.Prelude.{true, false, [], ◌∷◌, Some, None, pos, negsuc}
+use Rattle.ada_values.specs.Scalars.{integer}
 use Rattle.ada_values.specs.declared.scalars.Op.TheVariants as op
 use Rattle.typed_units.specs.declared.operators.Connective.{Connective}
 use Rattle.typed_units.specs.declared.operators.Quantifier.TheVariants as quantifier
 use Rattle.typed_units.specs.declared.operators.Relation.TheVariants as relation
-use Rattle.typed_units.specs.Syntax.{param, local, index, at, convert, succ_at, unary, member, choose, arm, other, quantified, Text}
-use Rattle.ada_semantics.specs.Cases.{place, integer, short, byte, to, num, flag, name, prefix, parens, calc, plus, minus, over, related, equal, less, greater, both, set_to, claim, by_in, by_out, by_in_out, procedure_of, with_opening, one}
+use Rattle.typed_units.specs.Syntax.{param, local, index, convert, succ_at, unary, member, choose, arm, other, quantified, Text}
+use Rattle.ada_semantics.specs.Cases.{ex, place, short, byte, to, num, flag, name, prefix, parens, calc, plus, minus, over, related, equal, less, greater, both, set_to, claim, by_in, by_out, by_in_out, procedure_of, with_opening, one}
 
 --  1  procedure Inc (X : in out Integer) is
 --  2  begin
@@ -99,7 +100,7 @@ power = one (procedure_of (by_in ∷ by_in ∷ by_out ∷ [])
 --  4  end Size;
 abbrev pub size : Text
 size = one (procedure_of (by_in ∷ by_out ∷ [])
-    (set_to 3 4 (param 1) None (at (place 3 9) (choose
+    (set_to 3 4 (param 1) None (ex (place 3 9) (choose
     (arm (greater (name 3 13 (param 0)) (num 3 17 0)) (name 3 24 (param 0))
     (other (prefix (unary op.Neg integer (place 3 31)) 3 31 (name 3 32 (param 0))))))) ∷ []))
 
@@ -110,8 +111,8 @@ size = one (procedure_of (by_in ∷ by_out ∷ [])
 --  5  end Inside;
 abbrev pub inside : Text
 inside = one (procedure_of (by_in ∷ by_in ∷ by_out ∷ by_out ∷ [])
-    (set_to 3 4 (param 2) None (at (place 3 9) (member true (name 3 9 (param 0)) (num 3 14 1) (name 3 19 (param 1))))
-    ∷ set_to 4 4 (param 3) None (at (place 4 9) (member false (name 4 9 (param 0)) (num 4 18 1) (name 4 23 (param 1)))) ∷ []))
+    (set_to 3 4 (param 2) None (ex (place 3 9) (member true (name 3 9 (param 0)) (num 3 14 1) (name 3 19 (param 1))))
+    ∷ set_to 4 4 (param 3) None (ex (place 4 9) (member false (name 4 9 (param 0)) (num 4 18 1) (name 4 23 (param 1)))) ∷ []))
 
 --  1  procedure Guard (X : in Integer; R : out Boolean) is
 --  2  begin
@@ -130,8 +131,8 @@ guard c = one (procedure_of (by_in ∷ by_out ∷ [])
 --  5  end Search;
 abbrev pub search_both : Text
 search_both = one (procedure_of (by_in ∷ by_out ∷ by_out ∷ [])
-    (set_to 3 4 (param 1) None (at (place 3 9) (quantified quantifier.All 0 (num 3 23 1) (num 3 28 5) (less (name 3 33 (index 0)) (name 3 37 (param 0)))))
-    ∷ set_to 4 4 (param 2) None (at (place 4 9) (quantified quantifier.Some 1 (num 4 24 1) (num 4 29 5) (greater (name 4 34 (index 1)) (name 4 38 (param 0))))) ∷ []))
+    (set_to 3 4 (param 1) None (ex (place 3 9) (quantified quantifier.All 0 (num 3 23 1) (num 3 28 5) (less (name 3 33 (index 0)) (name 3 37 (param 0)))))
+    ∷ set_to 4 4 (param 2) None (ex (place 4 9) (quantified quantifier.Some 1 (num 4 24 1) (num 4 29 5) (greater (name 4 34 (index 1)) (name 4 38 (param 0))))) ∷ []))
 
 --  1  procedure Empty (A, S : out Boolean) is
 --  2  begin
@@ -140,5 +141,5 @@ search_both = one (procedure_of (by_in ∷ by_out ∷ by_out ∷ [])
 --  5  end Empty;
 abbrev pub empty_ranges : Text
 empty_ranges = one (procedure_of (by_out ∷ by_out ∷ [])
-    (set_to 3 4 (param 0) None (at (place 3 9) (quantified quantifier.All 0 (num 3 23 5) (num 3 28 1) (flag 3 33 false)))
-    ∷ set_to 4 4 (param 1) None (at (place 4 9) (quantified quantifier.Some 1 (num 4 24 5) (num 4 29 1) (flag 4 34 true))) ∷ []))
+    (set_to 3 4 (param 0) None (ex (place 3 9) (quantified quantifier.All 0 (num 3 23 5) (num 3 28 1) (flag 3 33 false)))
+    ∷ set_to 4 4 (param 1) None (ex (place 4 9) (quantified quantifier.Some 1 (num 4 24 5) (num 4 29 1) (flag 4 34 true))) ∷ []))

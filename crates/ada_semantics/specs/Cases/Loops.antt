@@ -4,8 +4,8 @@ use Rattle.typed_units.specs.declared.operators.Relation.{Relation}
 use Rattle.typed_units.specs.declared.operators.Relation.TheVariants as relation
 use Rattle.typed_units.specs.declared.statements.Direction.{Direction}
 use Rattle.typed_units.specs.declared.statements.Direction.TheVariants as direction
-use Rattle.typed_units.specs.Syntax.{Var, param, local, turn, loop_entry, at, read, Way, st, skip, loop, forever, while, for, invariant, variant, done, exit, exit_when, Text}
-use Rattle.ada_semantics.specs.Cases.{place, num, flag, name, plus, minus, times, related, equal, less, greater, seq, set_to, claim, give_back, if_so, natural, by_in, by_out, by_in_out, procedure_of, function_of, with_opening, one}
+use Rattle.typed_units.specs.Syntax.{Var, param, local, turn, loop_entry, read, Way, st, skip, loop, forever, while, for, invariant, variant, done, exit, exit_when, Text}
+use Rattle.ada_semantics.specs.Cases.{ex, place, num, flag, name, plus, minus, times, related, equal, less, greater, seq, set_to, claim, give_back, if_so, natural, by_in, by_out, by_in_out, procedure_of, function_of, with_opening, one}
 
 --  1  procedure Climb (N : in Natural; S : out Natural) is
 --  2     I : Natural := 0;
@@ -55,13 +55,13 @@ abbrev pub never : Text
 never = one (procedure_of [] (st (place 3 4) (loop 0 (for false 0 (num 3 13 5) (num 3 18 1)) done []
     (seq (claim 4 7 (flag 4 22 false) ∷ []))) ∷ []))
 
---  1  procedure Digits (S : out Integer) is
+--  1  procedure Figure (S : out Integer) is
 --  2  begin
 --  3     S := 0;
 --  4     for I in 1 .. 3 loop   -- or `for I in reverse 1 .. 3 loop`
 --  5        S := 10 * S + I;
 --  6     end loop;
---  7  end Digits;
+--  7  end Figure;
 abbrev pub digits : Bool → Text
 digits reversed = one (procedure_of (by_out ∷ [])
     (set_to 3 4 (param 0) None (num 3 9 0)
@@ -210,5 +210,5 @@ abbrev pub add : Text
 add = one (procedure_of (by_in ∷ by_in ∷ by_in_out ∷ [])
     (st (place 3 4) (loop 0 (for false 0 (num 3 13 1) (name 3 18 (param 0))) done
     (invariant (equal (name 4 30 (param 2))
-    (minus 4 51 (plus 4 47 (at (place 4 34) (read (loop_entry 0) (param 2))) (name 4 49 (turn 0))) (num 4 53 1))) ∷ [])
+    (minus 4 51 (plus 4 47 (ex (place 4 34) (read (place 4 34) (loop_entry 0) (param 2))) (name 4 49 (turn 0))) (num 4 53 1))) ∷ [])
     (seq (set_to 5 7 (param 2) None (plus 5 14 (name 5 12 (param 2)) (name 5 16 (param 1))) ∷ []))) ∷ []))

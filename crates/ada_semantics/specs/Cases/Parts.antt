@@ -4,12 +4,14 @@
 --    type P is record A : Integer; B : Integer; end record;
 --    type Table is array (1 .. 2) of P;
 use Rattle.std.specs.Prelude.{ℕ, zero, suc, true, false, List, [], ◌∷◌, Some, None, ℤ, pos, negsuc}
+use Rattle.ada_values.specs.Scalars.{integer, integer_last}
 use Rattle.ada_values.specs.Value.{Val, array, record_of, Vals, no_vals, val, vals_of}
+use Rattle.typed_units.specs.declared.operators.Bounds.{Bounds}
 use Rattle.typed_units.specs.declared.operators.Composite.TheVariants as composite
 use Rattle.typed_units.specs.declared.operators.Quantifier.TheVariants as quantifier
-use Rattle.typed_units.specs.Syntax.{param, local, index, Ex, at, op1, op2, first, last, length_at, item, component, aggregate, Assocs, no_assocs, assoc, quantified, Fit, Step, to_component, to_item, pass_in_out, Text}
+use Rattle.typed_units.specs.Syntax.{param, local, index, Ex, op1, op2, first, last, length_at, item, component, aggregate, Assocs, no_assocs, assoc, quantified, to_component, to_item, pass_in_out, Text}
 use Rattle.ada_semantics.specs.Values.{place_of}
-use Rattle.ada_semantics.specs.Cases.{place, integer, short, to, num, name, plus, over, equal, greater, part_of, set_to, put_in, call_of, natural, by_in, by_out, by_in_out, procedure_of, one, program, int}
+use Rattle.ada_semantics.specs.Cases.{ex, Step, place, short, to, num, name, plus, over, equal, greater, part_of, set_to, put_in, call_of, natural, by_in, by_out, by_in_out, procedure_of, one, program, int}
 
 -- ---- values
 
@@ -35,10 +37,10 @@ zeros (suc n) = val (int 0) (zeros n)
 
 -- an item, with its index check
 abbrev pub item_of : Ex → Ex → Ex
-item_of a i = at (place_of a) (op2 (item true) a i)
+item_of a i = ex (place_of a) (op2 (item true) a i)
 
 abbrev pub component_of : Ex → ℕ → Ex
-component_of a k = at (place_of a) (component k a)
+component_of a k = ex (place_of a) (component k a)
 
 abbrev pub of_row : Ex → Step
 of_row i = to_item (Some (to (pos 1) (pos 3))) true i
@@ -48,13 +50,13 @@ of_p k = to_component k 2
 
 -- the association of one range, and that of `others`
 abbrev pub range_to : ℕ → ℕ → Ex → Assocs → Assocs
-range_to lo hi e rest = assoc (to (pos lo) (pos hi) ∷ []) false None e rest
+range_to lo hi e rest = assoc (to (pos lo) (pos hi) ∷ []) false [] e rest
 
-abbrev pub others_to : Fit → Ex → Assocs
-others_to fit e = assoc [] true fit e no_assocs
+abbrev pub others_to : List Bounds → Ex → Assocs
+others_to checks e = assoc [] true checks e no_assocs
 
 abbrev pub row_aggregate : ℕ → Assocs → Ex
-row_aggregate c as' = at (place 3 c) (aggregate composite.Array (to (pos 1) (pos 3)) as')
+row_aggregate c as' = ex (place 3 c) (aggregate composite.Array (to (pos 1) (pos 3)) as')
 
 -- ---- arrays
 
@@ -84,9 +86,9 @@ early = one (procedure_of (by_in ∷ []) (put_in 4 4 (local 0) (of_row (name 4 7
 --  6  end Bounds;
 abbrev pub bounds : Text
 bounds = one (procedure_of (by_in ∷ by_out ∷ by_out ∷ by_out ∷ [])
-    (set_to 3 4 (param 1) None (at (place 3 9) (op1 first (name 3 9 (param 0))))
-    ∷ set_to 4 4 (param 2) None (at (place 4 9) (op1 last (name 4 9 (param 0))))
-    ∷ set_to 5 4 (param 3) None (at (place 5 9) (op1 (length_at (place 5 10) integer) (name 5 9 (param 0)))) ∷ []))
+    (set_to 3 4 (param 1) None (ex (place 3 9) (op1 first (name 3 9 (param 0))))
+    ∷ set_to 4 4 (param 2) None (ex (place 4 9) (op1 last (name 4 9 (param 0))))
+    ∷ set_to 5 4 (param 3) None (ex (place 5 9) (op1 (length_at (place 5 10) integer) (name 5 9 (param 0)))) ∷ []))
 
 --  1  procedure Count (A : in Arr; N : out T) is   -- type T is range -100 .. 100, whose base range is -128 .. 127
 --  2  begin
@@ -94,7 +96,7 @@ bounds = one (procedure_of (by_in ∷ by_out ∷ by_out ∷ by_out ∷ [])
 --  4  end Count;
 abbrev pub count : Text
 count = one (procedure_of (by_in ∷ by_out ∷ [])
-    (set_to 3 4 (param 1) (Some (to (negsuc 99) (pos 100))) (at (place 3 9) (op1 (length_at (place 3 10) short) (name 3 9 (param 0)))) ∷ []))
+    (set_to 3 4 (param 1) (Some (to (negsuc 99) (pos 100))) (ex (place 3 9) (op1 (length_at (place 3 10) short) (name 3 9 (param 0)))) ∷ []))
 
 --  1  procedure Above (A : in Arr; R : out Boolean) is
 --  2  begin
@@ -102,8 +104,8 @@ count = one (procedure_of (by_in ∷ by_out ∷ [])
 --  4  end Above;
 abbrev pub above : Text
 above = one (procedure_of (by_in ∷ by_out ∷ [])
-    (set_to 3 4 (param 1) None (at (place 3 9) (quantified quantifier.All 0
-    (at (place 3 23) (op1 first (name 3 23 (param 0)))) (at (place 3 23) (op1 last (name 3 23 (param 0))))
+    (set_to 3 4 (param 1) None (ex (place 3 9) (quantified quantifier.All 0
+    (ex (place 3 23) (op1 first (name 3 23 (param 0)))) (ex (place 3 23) (op1 last (name 3 23 (param 0))))
     (greater (item_of (name 3 34 (param 0)) (name 3 37 (index 0))) (num 3 42 0)))) ∷ []))
 
 -- ---- aggregates of arrays
@@ -115,7 +117,7 @@ above = one (procedure_of (by_in ∷ by_out ∷ [])
 abbrev pub fill : Text
 fill = one (procedure_of (by_in ∷ by_out ∷ [])
     (set_to 3 4 (param 1) None (row_aggregate 9 (range_to 1 1 (name 3 15 (param 0))
-    (others_to None (plus 3 30 (name 3 28 (param 0)) (num 3 32 1))))) ∷ []))
+    (others_to [] (plus 3 30 (name 3 28 (param 0)) (num 3 32 1))))) ∷ []))
 
 --  1  procedure Ends (X : in Integer; A : out Row) is
 --  2  begin
@@ -123,7 +125,7 @@ fill = one (procedure_of (by_in ∷ by_out ∷ [])
 --  4  end Ends;
 abbrev pub both_ends : Text
 both_ends = one (procedure_of (by_in ∷ by_out ∷ [])
-    (set_to 3 4 (param 1) None (row_aggregate 9 (assoc (to (pos 1) (pos 1) ∷ to (pos 3) (pos 3) ∷ []) false None (name 3 19 (param 0))
+    (set_to 3 4 (param 1) None (row_aggregate 9 (assoc (to (pos 1) (pos 1) ∷ to (pos 3) (pos 3) ∷ []) false [] (name 3 19 (param 0))
     (range_to 2 2 (num 3 27 0) no_assocs))) ∷ []))
 
 --  1  procedure All_Given (X : in Integer; A : out Row) is
@@ -133,7 +135,7 @@ both_ends = one (procedure_of (by_in ∷ by_out ∷ [])
 abbrev pub all_given : Text
 all_given = one (procedure_of (by_in ∷ by_out ∷ [])
     (set_to 3 4 (param 1) None (row_aggregate 9 (range_to 1 3 (name 3 20 (param 0))
-    (others_to None (over 3 36 (num 3 33 10) (name 3 38 (param 0)))))) ∷ []))
+    (others_to [] (over 3 36 (num 3 33 10) (name 3 38 (param 0)))))) ∷ []))
 
 --  1  procedure None_Given (X : in Integer; A : out Row) is
 --  2  begin
@@ -142,7 +144,7 @@ all_given = one (procedure_of (by_in ∷ by_out ∷ [])
 abbrev pub none_given : Text
 none_given = one (procedure_of (by_in ∷ by_out ∷ [])
     (set_to 3 4 (param 1) None (row_aggregate 9 (range_to 3 2 (over 3 23 (num 3 20 10) (name 3 25 (param 0)))
-    (others_to None (name 3 38 (param 0))))) ∷ []))
+    (others_to [] (name 3 38 (param 0))))) ∷ []))
 
 --  1  procedure Written (X : in Integer; A : out Row) is
 --  2  begin
@@ -151,7 +153,7 @@ none_given = one (procedure_of (by_in ∷ by_out ∷ [])
 abbrev pub written : Text
 written = one (procedure_of (by_in ∷ by_out ∷ [])
     (set_to 3 4 (param 1) None (row_aggregate 9 (range_to 2 2 (over 3 18 (num 3 15 10) (name 3 20 (param 0)))
-    (others_to None (plus 3 35 (name 3 33 (param 0)) (num 3 37 1))))) ∷ []))
+    (others_to [] (plus 3 35 (name 3 33 (param 0)) (num 3 37 1))))) ∷ []))
 
 --  1  procedure Same (X : in Integer; A : out Natural_Row) is   -- whose items are of Natural
 --  2  begin
@@ -159,7 +161,7 @@ written = one (procedure_of (by_in ∷ by_out ∷ [])
 --  4  end Same;
 abbrev pub same_all : Text
 same_all = one (procedure_of (by_in ∷ by_out ∷ [])
-    (set_to 3 4 (param 1) None (row_aggregate 9 (others_to natural (name 3 20 (param 0)))) ∷ []))
+    (set_to 3 4 (param 1) None (row_aggregate 9 (others_to (to (pos 0) (pos integer_last) ∷ []) (name 3 20 (param 0)))) ∷ []))
 
 -- ---- records
 
@@ -207,9 +209,9 @@ half = one (procedure_of (by_in ∷ by_out ∷ [])
 --  6  end Give;
 abbrev pub given_parts : Text
 given_parts = one (procedure_of (by_in ∷ by_out ∷ by_out ∷ by_out ∷ [])
-    (set_to 3 4 (param 1) None (at (place 3 9) (aggregate composite.Record (to (pos 0) (pos 1)) (range_to 0 0 (name 3 15 (param 0)) (range_to 1 1 (num 3 23 2) no_assocs))))
-    ∷ set_to 4 4 (param 2) None (at (place 4 9) (aggregate composite.Record (to (pos 0) (pos 1))
-    (assoc (to (pos 0) (pos 0) ∷ to (pos 1) (pos 1) ∷ []) false None (name 4 19 (param 0)) no_assocs)))
+    (set_to 3 4 (param 1) None (ex (place 3 9) (aggregate composite.Record (to (pos 0) (pos 1)) (range_to 0 0 (name 3 15 (param 0)) (range_to 1 1 (num 3 23 2) no_assocs))))
+    ∷ set_to 4 4 (param 2) None (ex (place 4 9) (aggregate composite.Record (to (pos 0) (pos 1))
+    (assoc (to (pos 0) (pos 0) ∷ to (pos 1) (pos 1) ∷ []) false [] (name 4 19 (param 0)) no_assocs)))
     ∷ set_to 5 4 (param 3) None (equal (name 5 9 (param 1)) (name 5 13 (param 2))) ∷ []))
 
 --  1  procedure Deep (T : in out Table; I : in Integer; R : out Integer) is
@@ -220,7 +222,7 @@ given_parts = one (procedure_of (by_in ∷ by_out ∷ by_out ∷ by_out ∷ [])
 abbrev pub deep : Text
 deep = one (procedure_of (by_in_out ∷ by_in ∷ by_out ∷ [])
     (put_in 3 4 (param 0) (to_item (Some (to (pos 1) (pos 2))) true (name 3 7 (param 1)) ∷ of_p 1 ∷ []) None
-    (component_of (at (place 3 15) (op2 (item false) (name 3 15 (param 0)) (num 3 18 1))) 0)
+    (component_of (ex (place 3 15) (op2 (item false) (name 3 15 (param 0)) (num 3 18 1))) 0)
     ∷ set_to 4 4 (param 2) None (component_of (item_of (name 4 9 (param 0)) (name 4 12 (param 1))) 1) ∷ []))
 
 --  1  package body Lend is

@@ -1,23 +1,24 @@
 -- Binary search, as a larger sample; `type Arr is array (Positive range <>) of Integer`.
 use Rattle.std.specs.Prelude.{ℕ, true, [], ◌∷◌, Some, None, pos}
+use Rattle.ada_values.specs.Scalars.{integer, integer_last}
 use Rattle.typed_units.specs.declared.operators.Connective.TheVariants as connective
 use Rattle.typed_units.specs.declared.operators.Relation.TheVariants as relation
-use Rattle.typed_units.specs.Syntax.{param, local, answer, present, Fit, Ex, at, read, op1, first, last, length_at, member, choose, arm, other, st, loop, while, invariant, branch, when, otherwise, done, Routine, Text}
-use Rattle.ada_semantics.specs.Cases.{place, integer, to, num, flag, name, parens, plus, minus, over, related, equal, less, both, seq, set_to, give_back, if_so, natural, by_in, function_of, with_pre, with_post, one}
+use Rattle.typed_units.specs.Syntax.{param, local, answer, present, Fit, Ex, read, op1, first, last, length_at, member, choose, arm, other, st, loop, while, invariant, branch, when, otherwise, done, Routine, Text}
+use Rattle.ada_semantics.specs.Cases.{ex, place, to, num, flag, name, parens, plus, minus, over, related, equal, less, both, seq, set_to, give_back, if_so, natural, by_in, function_of, with_pre, with_post, one}
 use Rattle.ada_semantics.specs.Cases.Parts.{item_of}
 
 -- the range check of `Positive`
 abbrev pub positive : Fit
-positive = Some (to (pos 1) (pos 2147483647))
+positive = Some (to (pos 1) (pos integer_last))
 
 abbrev pub first_of : ℕ → ℕ → Ex
-first_of l c = at (place l c) (op1 first (name l c (param 0)))
+first_of l c = ex (place l c) (op1 first (name l c (param 0)))
 
 abbrev pub last_of : ℕ → ℕ → Ex
-last_of l c = at (place l c) (op1 last (name l c (param 0)))
+last_of l c = ex (place l c) (op1 last (name l c (param 0)))
 
 abbrev pub result_at : ℕ → ℕ → Ex
-result_at l c = at (place l c) (read present answer)
+result_at l c = ex (place l c) (read (place l c) present answer)
 
 -- the contract, in the package's specification:
 --  3     function Find (A : Arr; X : Integer) return Natural with
@@ -26,9 +27,9 @@ result_at l c = at (place l c) (read present answer)
 --  6                  Find'Result in A'Range and then A (Find'Result) = X);
 abbrev pub with_contract : Routine → Routine
 with_contract r = with_pre (less (last_of 4 14) (num 4 23 2147483647)) (with_post
-    (at (place 5 14) (choose (arm (related relation.Differs (result_at 5 18) (num 5 33 0))
+    (ex (place 5 14) (choose (arm (related relation.Differs (result_at 5 18) (num 5 33 0))
     (both connective.AndThen
-    (at (place 6 17) (member true (result_at 6 17) (first_of 6 32) (last_of 6 32)))
+    (ex (place 6 17) (member true (result_at 6 17) (first_of 6 32) (last_of 6 32)))
     (equal (item_of (name 6 49 (param 0)) (result_at 6 52)) (name 6 67 (param 1))))
     (other (flag 5 14 true)))))
     r)
@@ -60,7 +61,7 @@ with_contract r = with_pre (less (last_of 4 14) (num 4 23 2147483647)) (with_pos
 -- 25  end Search;
 abbrev pub find : Text
 find = one (with_contract (function_of (by_in ∷ by_in ∷ [])
-    (if_so 7 7 (equal (at (place 7 10) (op1 (length_at (place 7 11) integer) (name 7 10 (param 0)))) (num 7 21 0)) (give_back 8 10 None (num 8 17 0) ∷ []) []
+    (if_so 7 7 (equal (ex (place 7 10) (op1 (length_at (place 7 11) integer) (name 7 10 (param 0)))) (num 7 21 0)) (give_back 8 10 None (num 8 17 0) ∷ []) []
     ∷ set_to 10 7 (local 0) positive (first_of 10 13)
     ∷ set_to 11 7 (local 1) natural (last_of 11 13)
     ∷ st (place 12 7) (loop 0 (while (related relation.AtMost (name 12 13 (local 0)) (name 12 19 (local 1)))) done

@@ -1,8 +1,9 @@
 -- Sample programs with statements.
 use Rattle.std.specs.Prelude.{true, false, [], ◌∷◌, None, pos, negsuc}
 use Rattle.ada_values.specs.Value.{number}
-use Rattle.typed_units.specs.Syntax.{param, local, at, static, st, case_of, alternative, no_alternatives, branch, when, otherwise, return, assume, Text}
-use Rattle.ada_semantics.specs.Cases.{place, to, num, name, minus, greater, equal, seq, set_to, claim, natural, by_in, by_out, procedure_of, with_opening, one}
+use Rattle.typed_units.specs.declared.statements.Choice.TheVariants as choice
+use Rattle.typed_units.specs.Syntax.{param, local, static, st, case_of, alternative, no_alternatives, branch, when, otherwise, return, assume, Text}
+use Rattle.ada_semantics.specs.Cases.{ex, place, to, num, name, minus, greater, equal, seq, set_to, claim, natural, by_in, by_out, procedure_of, with_opening, one}
 
 --  1  procedure Same (X : in Integer; Y : in Integer) is
 --  2  begin
@@ -25,8 +26,8 @@ same = one (procedure_of (by_in ∷ by_in ∷ [])
 abbrev pub kind_of : Text
 kind_of = one (procedure_of (by_in ∷ by_out ∷ [])
     (st (place 3 4) (case_of (name 3 9 (param 0))
-    (alternative (to (pos 1) (pos 1) ∷ to (pos 3) (pos 5) ∷ []) false (seq (set_to 4 26 (param 1) None (num 4 31 1) ∷ []))
-    (alternative (to (pos 2) (pos 2) ∷ []) false (seq (set_to 5 17 (param 1) None (num 5 22 2) ∷ []))
+    (alternative (choice.Value (pos 1) ∷ choice.Range (to (pos 3) (pos 5)) ∷ []) false (seq (set_to 4 26 (param 1) None (num 4 31 1) ∷ []))
+    (alternative (choice.Value (pos 2) ∷ []) false (seq (set_to 5 17 (param 1) None (num 5 22 2) ∷ []))
     (alternative [] true (seq (set_to 6 22 (param 1) None (num 6 27 0) ∷ []))
     no_alternatives)))) ∷ []))
 
@@ -45,7 +46,7 @@ sign = one (procedure_of (by_in ∷ by_out ∷ [])
     (st (place 3 4) (branch
     (when (greater (name 3 7 (param 0)) (num 3 11 0)) (seq (set_to 4 7 (param 1) None (num 4 12 1) ∷ []))
     (when (equal (name 5 10 (param 0)) (num 5 14 0)) (seq (set_to 6 7 (param 1) None (num 6 12 0) ∷ []))
-    (otherwise (seq (set_to 8 7 (param 1) None (at (place 8 12) (static (number (negsuc 0)))) ∷ [])))))) ∷ []))
+    (otherwise (seq (set_to 8 7 (param 1) None (ex (place 8 12) (static (number (negsuc 0)))) ∷ [])))))) ∷ []))
 
 --  1  procedure Trust (X : in Integer) is
 --  2  begin

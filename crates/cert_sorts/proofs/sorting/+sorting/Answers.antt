@@ -1,10 +1,8 @@
-use Rattle.std.proofs.Common.{◌≡◌, ◌∙◌, ap, suc, arith}
-use Rattle.logic_terms.specs.Sorting.{node_kind}
-use Rattle.logic_terms.specs.View.{term}
-use Rattle.logic_terms.specs.declared.syntax.Term.{Term}
-use Rattle.cert_rules.specs.Context.{is_some_numbers, new_kinds}
+use Rattle.std.proofs.Common.{◌≡◌, ap, suc, ◌<◌, arith}
+use Rattle.logic_terms.specs.View.{term, terms}
+use Rattle.logic_terms.specs.Weight.{weight, weights}
+use Rattle.logic_terms.proofs.Weights.{weight_at}
 use Rattle.cert_sorts.specs.Found.{signature}
-use Rattle.cert_sorts.proofs.Fitting.{two_numbers}
 use Rattle.cert_sorts.proofs.Operands.{truths_below}
 use Rattle.cert_sorts.proofs.sorting.+sorting.Goals as goal
 
@@ -13,8 +11,9 @@ is_sorted_below-returns-in-Some t c =
     let one_more : c.in-Some.below ≡ suc c.args.depth = omega (arith, c.in-Some.ensures) in
     truths_below (signature c.args.scope.now) c.args.p.now c.in-Some.below c.args.depth c.is_sorted.result one_more c.is_sorted.ensures
 
-pub sort_of_term-returns-in_ok-second-in-Add : goal.sort_of_term-returns-in_ok-second-in-Add
-sort_of_term-returns-in_ok-second-in-Add t c =
-    let fits = λ (q : Term). is_some_numbers (node_kind (signature c.args.scope.now) (new_kinds c.args.depth) (term q)) in
-    two_numbers (signature c.args.scope.now) (new_kinds c.args.depth) c.args.t.now c.in-Add.a c.in-Add.b c.in_ok-first-in-Add.first c.in_ok-second-in-Add.second c.both.result c.number_if-in-Add.result
-    c.in-Add.is (c.in_ok-first-in-Add.ensures ∙ ap fits c.get-in-Add.ensures) (c.in_ok-second-in-Add.ensures ∙ ap fits c.get-in-Add-2.ensures) c.both.ensures.value c.number_if-in-Add.ensures
+pub sort_over-sort_of_term-requires : goal.sort_over-sort_of_term-requires
+sort_over-sort_of_term-requires t c =
+    let items = c.as_slice-t-items.result.now in
+    let e : weights (terms items) ≡ weights (terms c.args.ts.now) = ap (λ ts. weights (terms ts)) c.as_slice-t-items.ensures in
+    let s : weight (term c.t-item.result) < weights (terms items) = weight_at items c.loop-t.t-index c.t-item.result c.loop-t-test.true c.t-item.is in
+    (omega (arith, s, e), tt)

@@ -11,4 +11,4 @@ loop-p-preserved c =
     let p = c.p-item.result in
     let h = subst (λ (xs : List Formula). i < length xs) c.as_slice-p-items.ensures c.loop-p-test.true in
     let e = subst (λ (xs : List Formula). p ≡ get_or xs i p) c.as_slice-p-items.ensures c.p-item.is in
-    agrees_more c.args.ps.now i p (formula c.in_ok-negate.field-0) (assumes c.loop-p.assumed) (assumes c.assume.new.assumed) h e c.in_ok-negate.ensures c.in_ok-assume.ensures c.loop-p.invariant
+    agrees_more c.args.ps.now i p (formula c.in_ok-negation.field-0) (assumes c.loop-p.assumed) (assumes c.assume.new.assumed) h e c.in_ok-negation.ensures c.in_ok-assume.ensures c.loop-p.invariant

@@ -1,0 +1,10 @@
+//! What the programs of cases share: lines of cases, and texts on one line.
+#![tactic(auto)]
+
+mod input;
+mod shown;
+mod words;
+
+pub use input::cases;
+pub use shown::push_shown;
+pub use words::{LineFault, WordList, words_of};
