@@ -3,8 +3,8 @@ use Rattle.std.proofs.Common.{◌≡◌, refl, sym, ◌∙◌, ap, subst, ℕ, L
 use Rattle.term_reader.specs.Bytes.{first, Ends, IsFault}
 use Rattle.term_reader.specs.Words.{IsWordFault}
 use Rattle.term_reader.proofs.Digits.{same_tail}
-use Rattle.logic_text.specs.Phases.{IsBad, IsUpTo}
-use Rattle.logic_text.proofs.WordMarks.{word_bad}
+use Rattle.term_reader.specs.Phases.{IsBad, IsUpTo}
+use Rattle.term_reader.proofs.WordMarks.{word_bad}
 use Rattle.cert_reader.specs.Phases.{Then}
 
 -- texts that begin with a space

@@ -8,8 +8,9 @@ use Rattle.term_reader.specs.Bytes.{first}
 use Rattle.term_reader.specs.Words.{IsNoWord}
 use Rattle.term_reader.proofs.Spelling.{same_place}
 use Rattle.logic_text.specs.Certs.{spaced_number, spaced_whole, spaced_node, nodes_text, numbers_text, literals_text, steps_text, line_text, lines_text}
-use Rattle.logic_text.specs.Phases.{IsBad, IsUpTo}
-use Rattle.logic_text.specs.Fits.{IsCount, IsFormula, IsLine, Every}
+use Rattle.term_reader.specs.Phases.{IsBad, IsUpTo}
+use Rattle.term_reader.specs.Values.{IsCount, IsFormula}
+use Rattle.logic_text.specs.Fits.{IsLine, Every}
 use Rattle.cert_reader.specs.Phases.{InLines, Formulas, hints, steps, Has, fields}
 use Rattle.cert_reader.specs.Words.{word_of, line_words, words}
 use Rattle.cert_reader.specs.declared.line_word.LineWord.{LineWord}

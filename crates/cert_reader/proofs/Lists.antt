@@ -2,7 +2,7 @@
 use Rattle.std.proofs.Common.{◌≡◌, refl, sym, ◌∙◌, ap, ap₂, subst, ℕ, suc, ◌+◌, ◌-◌, ◌<◌, ◌≤◌, List, [], ◌∷◌, ◌++◌, length, length-append, drop, map, codes, append_assoc, arith}
 use Rattle.std.specs.Prelude.{ℤ}
 use Rattle.std.proofs.lemmas.Bool.{eqb-false}
-use Rattle.std.proofs.lemmas.List.{map-append, append-nil, length-map}
+use Rattle.std.proofs.lemmas.List.{length-map}
 use Rattle.logic_terms.specs.Node.{Node}
 use Rattle.logic_terms.specs.View.{formula as formula_of}
 use Rattle.logic_terms.specs.declared.syntax.Formula.{Formula}
@@ -14,28 +14,22 @@ use Rattle.term_reader.specs.declared.fault.ReadFault.{ReadFault}
 use Rattle.term_reader.specs.declared.fault.ReadFault.TheVariants as fault
 use Rattle.term_reader.proofs.Digits.{same_head, same_tail}
 use Rattle.term_reader.proofs.Fronts.{first_is}
+use Rattle.term_reader.proofs.Rows.{IsRow, row_more, one_more}
 use Rattle.logic_text.specs.Certs.{spaced_number, spaced_whole, spaced_node, nodes_text, numbers_text, literals_text, scaled_text, step_text, steps_text}
-use Rattle.logic_text.specs.Phases.{IsUpTo, IsBadAt}
-use Rattle.logic_text.proofs.Places.{bad_at, steps_at}
-use Rattle.logic_text.proofs.Reaching.{upto_same}
+use Rattle.term_reader.specs.Phases.{IsUpTo, IsBadAt}
+use Rattle.term_reader.proofs.Places.{bad_at, steps_at}
+use Rattle.term_reader.proofs.Reaching.{upto_same}
 use Rattle.cert_reader.specs.Phases.{Phase, ended, hints, steps, index, whole, formula, times, Has}
 use Rattle.cert_reader.proofs.Forms.{put}
 use Rattle.cert_reader.proofs.Leaves.{some}
 
 -- ---- formulas
 
-nodes_pushed : (ns : List Node) (n : Node) (r : List ℕ) → nodes_text (ns ++ n ∷ []) ++ r ≡ nodes_text ns ++ (spaced_node n ++ r)
-nodes_pushed [] n r = ap (λ (x : List ℕ). x ++ r) (append-nil (spaced_node n))
-nodes_pushed (m ∷ ns) n r =
-    append_assoc (spaced_node m) (nodes_text (ns ++ n ∷ [])) r
-    ∙ ap (λ (x : List ℕ). spaced_node m ++ x) (nodes_pushed ns n r)
-    ∙ sym (append_assoc (spaced_node m) (nodes_text ns) (spaced_node n ++ r))
+nodes_row : IsRow spaced_node nodes_text
+nodes_row = record { none = refl; next = λ n ns. refl }
 
 pub formula_text : (old new : List Formula) (p : Formula) (s m r : List ℕ) → new ≡ old ++ p ∷ [] → s ≡ nodes_text (map formula_of old) ++ m → m ≡ spaced_node (formula_of p) ++ r → s ≡ nodes_text (map formula_of new) ++ r
-formula_text old new p s m r e f g =
-    f ∙ ap (λ (x : List ℕ). nodes_text (map formula_of old) ++ x) g
-    ∙ sym (nodes_pushed (map formula_of old) (formula_of p) r)
-    ∙ ap (λ (ns : List Node). nodes_text ns ++ r) (sym (map-append formula_of old (p ∷ [])) ∙ ap (map formula_of) (sym e))
+formula_text old new p s m r e f g = one_more formula_of spaced_node nodes_text nodes_row old new p s m r e g f
 
 -- the next of so many formulas
 next_is : (left : ℕ) → 0 < left → suc (left - 1) ≡ left
@@ -68,16 +62,11 @@ literals_are ls n s m r e f g =
 
 -- ---- hints
 
-numbers_pushed : (ks : List ℕ) (k : ℕ) (r : List ℕ) → numbers_text (ks ++ k ∷ []) ++ r ≡ numbers_text ks ++ (spaced_number k ++ r)
-numbers_pushed [] k r = ap (λ (x : List ℕ). x ++ r) (append-nil (spaced_number k))
-numbers_pushed (j ∷ ks) k r =
-    append_assoc (spaced_number j) (numbers_text (ks ++ k ∷ [])) r
-    ∙ ap (λ (x : List ℕ). spaced_number j ++ x) (numbers_pushed ks k r)
-    ∙ sym (append_assoc (spaced_number j) (numbers_text ks) (spaced_number k ++ r))
+numbers_row : IsRow spaced_number numbers_text
+numbers_row = record { none = refl; next = λ k ks. refl }
 
 pub hint_text : (old new : List ℕ) (k : ℕ) (m r : List ℕ) → new ≡ old ++ k ∷ [] → m ≡ spaced_number k ++ r → (s : List ℕ) → s ≡ numbers_text old ++ m → s ≡ numbers_text new ++ r
-hint_text old new k m r e g s f =
-    f ∙ ap (λ (x : List ℕ). numbers_text old ++ x) g ∙ sym (numbers_pushed old k r) ∙ ap (λ (ks : List ℕ). numbers_text ks ++ r) (sym e)
+hint_text old new k m r e g s f = row_more spaced_number numbers_text numbers_row old new k s m r e g f
 
 hints_in : (x : List ℕ) → Has (index hints) x → Has hints x
 hints_in x (k, u, f, (ks, y, g, h, e), d) =
@@ -134,18 +123,11 @@ mark_at bytes at c e f h =
     let l = r.0 in
     (omega arith, e ∙ ap (λ (x : List ℕ). 32 ∷ x) (r.1 ∙ ap (λ (i : ℕ). c ∷ drop i bytes) (two_on at)))
 
-steps_pushed : (ss : List Step) (t : Step) (r : List ℕ) → steps_text (ss ++ t ∷ []) ++ r ≡ steps_text ss ++ (step_text t ++ r)
-steps_pushed [] t r = ap (λ (x : List ℕ). x ++ r) (append-nil (step_text t))
-steps_pushed (s ∷ ss) t r =
-    append_assoc (step_text s) (steps_text (ss ++ t ∷ [])) r
-    ∙ ap (λ (x : List ℕ). step_text s ++ x) (steps_pushed ss t r)
-    ∙ sym (append_assoc (step_text s) (steps_text ss) (step_text t ++ r))
+steps_row : IsRow step_text steps_text
+steps_row = record { none = refl; next = λ t ss. refl }
 
 pub next_step_text : (old new : List StepLine) (t : StepLine) (s m r : List ℕ) → new ≡ old ++ t ∷ [] → s ≡ steps_text (map step_of old) ++ m → m ≡ step_text (step_of t) ++ r → s ≡ steps_text (map step_of new) ++ r
-next_step_text old new t s m r e f g =
-    f ∙ ap (λ (x : List ℕ). steps_text (map step_of old) ++ x) g
-    ∙ sym (steps_pushed (map step_of old) (step_of t) r)
-    ∙ ap (λ (ss : List Step). steps_text ss ++ r) (sym (map-append step_of old (t ∷ [])) ∙ ap (map step_of) (sym e))
+next_step_text old new t s m r e f g = one_more step_of step_text steps_text steps_row old new t s m r e g f
 
 -- what follows the mark of a sum
 abbrev pub sums : Phase → Phase

@@ -1,7 +1,7 @@
 -- Whole lines and whole certificates.
-use Rattle.std.proofs.Common.{◌≡◌, refl, sym, ◌∙◌, ap, ap₂, subst, ℕ, suc, ◌+◌, ◌-◌, ◌<◌, ◌≤◌, List, [], ◌∷◌, ◌++◌, length, get_or, take, drop, map, append_assoc, length-append, length-drop, codes, arith}
-use Rattle.std.proofs.Math.Seq.{take-append_seam, drop-length}
-use Rattle.std.proofs.lemmas.List.{map-append, append-nil, take-append-drop}
+use Rattle.std.proofs.Common.{◌≡◌, refl, sym, ◌∙◌, ap, ap₂, ℕ, ◌+◌, ◌<◌, ◌≤◌, List, [], ◌∷◌, ◌++◌, length, get_or, drop, map, append_assoc, codes, arith}
+use Rattle.std.proofs.Math.Seq.{drop-length}
+use Rattle.std.proofs.lemmas.List.{append-nil}
 use Rattle.cert_lines.specs.Line.{Line}
 use Rattle.cert_lines.specs.View.{line as line_of}
 use Rattle.cert_lines.specs.declared.line.CertLine.{CertLine}
@@ -9,21 +9,23 @@ use Rattle.term_reader.specs.Bytes.{first}
 use Rattle.term_reader.specs.Words.{IsNoWord, IsWordFault}
 use Rattle.term_reader.specs.declared.fault.ReadFault.{ReadFault}
 use Rattle.term_reader.specs.declared.fault.ReadFault.TheVariants as fault
-use Rattle.term_reader.proofs.Digits.{same_head, same_tail}
-use Rattle.term_reader.proofs.Fronts.{first_dropped}
-use Rattle.logic_text.specs.Answers.{with_end}
+use Rattle.term_reader.proofs.Digits.{same_tail}
+use Rattle.term_reader.proofs.Rows.{IsRow, one_more}
+use Rattle.term_reader.proofs.WholeTexts.{IsStart, bad_text, good_text, byte_before_end, not_end}
+use Rattle.term_reader.specs.Texts.{with_end}
+use Rattle.logic_text.specs.Faults.{text_fault}
 use Rattle.logic_text.specs.Certs.{line_text, lines_text, cert_bytes}
-use Rattle.logic_text.specs.Phases.{After, IsBad, IsUpTo, IsBadAt}
-use Rattle.logic_text.proofs.Places.{bad_at, steps_at, word_at, word_bad_at}
-use Rattle.logic_text.proofs.Reaching.{upto_same}
-use Rattle.cert_reader.specs.Answers.{GoesOn, IsBadCert}
+use Rattle.term_reader.specs.Phases.{After, IsBad, IsUpTo, IsBadAt}
+use Rattle.term_reader.proofs.Places.{bad_at, steps_at, word_at, word_bad_at}
+use Rattle.term_reader.proofs.Reaching.{upto_same}
+use Rattle.cert_reader.specs.Answers.{IsBadCert, IsCertFault, most_cert_bytes}
 use Rattle.cert_reader.specs.Entries.{IsFields, IsLine, IsEntry}
 use Rattle.logic_text.specs.Fits.{AreLines}
 use Rattle.cert_reader.specs.Phases.{InLines, AtStart, ended, finish, Has, fields}
 use Rattle.cert_reader.specs.Words.{word_of, words}
 use Rattle.cert_reader.specs.declared.line_word.LineWord.{LineWord}
 use Rattle.cert_reader.specs.declared.line_word.LineWord.TheVariants as line
-use Rattle.cert_reader.proofs.Forms.{line_on, no_word_bad, next_line}
+use Rattle.cert_reader.proofs.Forms.{line_on, no_word_bad}
 use Rattle.cert_reader.proofs.Leaves.{last_line, some_lines}
 
 -- ---- the end of a line
@@ -43,7 +45,7 @@ line_ended w l bytes at m to r n h e = let b = r.before in record {
 -- ---- the last line
 
 not_finish : (c : ℕ) (rest : List ℕ) → (c ≡ 256 → ⊥) → (10 ∷ []) ++ (c ∷ rest) ≡ 10 ∷ (256 ∷ []) → ⊥
-not_finish c rest n e = n (same_head c 256 rest [] (same_tail 10 10 _ _ e))
+not_finish c rest n e = not_end c rest n (same_tail 10 10 _ _ e)
 
 abbrev Over : List ℕ → Type 0
 Over x = x ≡ 256 ∷ []
@@ -60,9 +62,6 @@ finish_front s = upto_same (Has finish) (After (10 ∷ []) Over) s finish_in (λ
 pub finish_bad : (bytes : List ℕ) (at to : ℕ) → to ≤ length bytes → IsWordFault (10 ∷ []) (drop at bytes) (drop to bytes) → IsBadAt (Has finish) bytes at (fault.BadText to)
 finish_bad bytes at to h f = bad_at (Has finish) (After (10 ∷ []) Over) bytes at at (fault.BadText to) (finish_front (drop at bytes)) (word_bad_at (10 ∷ []) Over (256 ∷ []) bytes at to refl h f)
 
-byte_not_end : (bytes : List ℕ) (to : ℕ) → to < length bytes → get_or bytes to 0 < 256 → first (drop to bytes) ≡ 256 → ⊥
-byte_not_end bytes to l b e = let f : get_or bytes to 0 ≡ 256 = sym (first_dropped bytes to l) ∙ e in omega arith
-
 pub finish_more : (bytes : List ℕ) (at to : ℕ) → drop at bytes ≡ (10 ∷ []) ++ drop to bytes → to < length bytes → get_or bytes to 0 < 256 → IsBadAt (Has finish) bytes at (fault.BadText to)
 finish_more bytes at to e l b = (
   omega arith,
@@ -70,7 +69,7 @@ finish_more bytes at to e l b = (
     front = 10 ∷ [];
     is_front = e;
     goes = (256 ∷ [], refl);
-    stuck = λ rest h. not_finish (first (drop to bytes)) rest (byte_not_end bytes to l b) h;
+    stuck = λ rest h. not_finish (first (drop to bytes)) rest (byte_before_end bytes to l b) h;
   },
 )
 
@@ -102,18 +101,13 @@ entry_read w l bytes at m to n e r = let b = r.before in record {
 
 -- ---- lines
 
-lines_pushed : (ls : List Line) (l : Line) (r : List ℕ) → lines_text (ls ++ l ∷ []) ++ r ≡ lines_text ls ++ (line_text l ++ (10 ∷ r))
-lines_pushed [] l r = next_line l [] r
-lines_pushed (m ∷ ls) l r =
-    append_assoc (line_text m ++ (10 ∷ [])) (lines_text (ls ++ l ∷ [])) r
-    ∙ ap (λ (x : List ℕ). (line_text m ++ (10 ∷ [])) ++ x) (lines_pushed ls l r)
-    ∙ sym (append_assoc (line_text m ++ (10 ∷ [])) (lines_text ls) (line_text l ++ (10 ∷ r)))
+lines_row : IsRow (λ (l : Line). line_text l ++ (10 ∷ [])) lines_text
+lines_row = record { none = refl; next = λ l ls. refl }
 
 pub line_added : (old new : List CertLine) (l : CertLine) (s m r : List ℕ) → new ≡ old ++ l ∷ [] → s ≡ lines_text (map line_of old) ++ m → m ≡ line_text (line_of l) ++ (10 ∷ r) → s ≡ lines_text (map line_of new) ++ r
 line_added old new l s m r e f g =
-    f ∙ ap (λ (x : List ℕ). lines_text (map line_of old) ++ x) g
-    ∙ sym (lines_pushed (map line_of old) (line_of l) r)
-    ∙ ap (λ (ls : List Line). lines_text ls ++ r) (sym (map-append line_of old (l ∷ [])) ∙ ap (map line_of) (sym e))
+    one_more line_of (λ (x : Line). line_text x ++ (10 ∷ [])) lines_text lines_row old new l s m r e
+    (g ∙ sym (append_assoc (line_text (line_of l)) (10 ∷ []) r)) f
 
 -- ---- whole certificates
 
@@ -128,38 +122,15 @@ cert_of_start x (y, (ls, f, e), d) = (ls, f, cert_then ls (256 ∷ []) ∙ ap (�
 start_of_cert : (ls : List Line) → AreLines ls → AtStart (with_end (cert_bytes ls))
 start_of_cert ls f = (lines_text ls ++ last_line, (ls, f, refl), cert_then ls (256 ∷ []))
 
-end_first : (r : List ℕ) → (x : List ℕ) × (r ++ (256 ∷ []) ≡ first r ∷ x)
-end_first [] = ([], refl)
-end_first (c ∷ r) = (r ++ (256 ∷ []), refl)
-
-take_next : (u : List ℕ) (c : ℕ) (x : List ℕ) → take (suc (length u)) (u ++ (c ∷ x)) ≡ u ++ (c ∷ [])
-take_next [] c x = refl
-take_next (d ∷ u) c x = ap (λ (t : List ℕ). d ∷ t) (take_next u c x)
-
-front_length : (u bytes : List ℕ) (to : ℕ) → to ≤ length bytes → bytes ≡ u ++ drop to bytes → length u ≡ to
-front_length u bytes to h e =
-    let a : length bytes ≡ length u + length (drop to bytes) = ap length e ∙ length-append u (drop to bytes) in
-    let b : length (drop to bytes) ≡ length bytes - to = length-drop to bytes in omega arith
-
-goes_on : (u : List ℕ) → ((rest : List ℕ) × AtStart (u ++ rest)) → GoesOn u
-goes_on u h = let g = cert_of_start (u ++ h.0) h.1 in (g.0, h.0, g.1, g.2)
-
-no_more : (u : List ℕ) (c : ℕ) → ((rest : List ℕ) → AtStart (u ++ (c ∷ rest)) → ⊥) → GoesOn (u ++ (c ∷ [])) → ⊥
-no_more u c n h = n h.1 (subst AtStart (h.3 ∙ append_assoc u (c ∷ []) h.1) (start_of_cert h.0 h.2))
+certs_start : IsStart AreLines cert_bytes AtStart
+certs_start = record { value = cert_of_start; start = start_of_cert }
 
 pub bad_cert : (bytes : List ℕ) (to : ℕ) → to ≤ length bytes → IsBad AtStart (drop 0 bytes) (drop to bytes) → IsBadCert bytes to
-bad_cert bytes to h b =
-    let u = b.front in
-    let e : bytes ≡ u ++ drop to bytes = b.is_front in
-    let n : length u ≡ to = front_length u bytes to h e in
-    let x = end_first (drop to bytes) in
-    let f : with_end bytes ≡ u ++ (first (drop to bytes) ∷ x.0) = ap with_end e ∙ append_assoc u (drop to bytes) (256 ∷ []) ∙ ap (λ (t : List ℕ). u ++ t) x.1 in
-    let g : take to (with_end bytes) ≡ u = ap₂ (λ (i : ℕ) (t : List ℕ). take i t) (sym n) f ∙ take-append_seam u (first (drop to bytes) ∷ x.0) in
-    let k : take (suc to) (with_end bytes) ≡ u ++ (first (drop to bytes) ∷ []) = ap₂ (λ (i : ℕ) (t : List ℕ). take (suc i) t) (sym n) f ∙ take_next u (first (drop to bytes)) x.0 in (
-      h,
-      subst GoesOn (sym g) (goes_on u b.goes),
-      λ q. no_more u (first (drop to bytes)) b.stuck (subst GoesOn k q),
-    )
+bad_cert bytes to h b = bad_text AreLines cert_bytes AtStart certs_start bytes to h b
+
+pub cert_fault : (bytes : List ℕ) (f : ReadFault) → length bytes ≤ most_cert_bytes → IsBadAt AtStart bytes 0 f → IsCertFault bytes (text_fault f)
+cert_fault bytes (fault.BadText to) l b = (l, bad_cert bytes to b.0 b.1)
+cert_fault bytes fault.Starved l b = l
 
 pub start_bad : (bytes : List ℕ) (to : ℕ) → to ≤ length bytes → IsWordFault (codes "cert 1\n") (drop 0 bytes) (drop to bytes) → IsBadAt AtStart bytes 0 (fault.BadText to)
 start_bad bytes to h f = word_bad_at (codes "cert 1\n") InLines _ bytes 0 to some_lines h f
@@ -174,4 +145,4 @@ cert_is ls bytes m e f =
 -- ---- what is written is not refused
 
 pub good_cert : (ls : List Line) (at : ℕ) → AreLines ls → IsBadCert (cert_bytes ls) at → ⊥
-good_cert ls at h b = b.2 (ls, drop (suc at) (with_end (cert_bytes ls)), h, sym (take-append-drop (suc at) (with_end (cert_bytes ls))))
+good_cert ls at h b = good_text AreLines cert_bytes ls at h b

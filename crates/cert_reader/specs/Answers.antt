@@ -1,19 +1,15 @@
 -- The answers for the bytes of a certificate.
-use Rattle.std.specs.Prelude.{◌≡◌, ◌≤◌, ◌^◌, ◌<◌, ℕ, suc, List, ◌++◌, length, take}
+use Rattle.std.specs.Prelude.{◌≤◌, ◌^◌, ◌<◌, ℕ, List, length}
 use Rattle.cert_lines.specs.Line.{Line}
-use Rattle.logic_text.specs.Answers.{with_end}
+use Rattle.term_reader.specs.Texts.{IsBadText}
 use Rattle.logic_text.specs.Certs.{cert_bytes}
 use Rattle.logic_text.specs.declared.fault.TextFault.{TextFault}
 use Rattle.logic_text.specs.declared.fault.TextFault.TheVariants as fault
 use Rattle.logic_text.specs.Fits.{AreLines}
 
--- the text of some certificate begins so; the end counts as a byte
-abbrev pub GoesOn : List ℕ → Type 0
-GoesOn front = (ls : List Line) × (rest : List ℕ) × AreLines ls × (with_end (cert_bytes ls) ≡ front ++ rest)
-
 -- byte `at` is the first after which no text of a certificate goes on so
 abbrev pub IsBadCert : List ℕ → ℕ → Type 0
-IsBadCert b at = (at ≤ length b) × GoesOn (take at (with_end b)) × (¬ GoesOn (take (suc at) (with_end b)))
+IsBadCert b at = IsBadText AreLines cert_bytes b at
 
 -- 1 MiB
 abbrev pub most_cert_bytes : ℕ

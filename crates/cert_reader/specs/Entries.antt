@@ -3,7 +3,7 @@ use Rattle.std.specs.Prelude.{◌≡◌, ◌<◌, ◌≤◌, ℕ, List, ◌∷�
 use Rattle.cert_lines.specs.View.{line}
 use Rattle.cert_lines.specs.declared.line.CertLine.{CertLine}
 use Rattle.logic_text.specs.Certs.{line_text}
-use Rattle.logic_text.specs.Phases.{IsUpTo}
+use Rattle.term_reader.specs.Phases.{IsUpTo}
 use Rattle.cert_reader.specs.Words.{word_of}
 use Rattle.cert_reader.specs.Phases.{InLines, ended, Has, fields}
 use Rattle.cert_reader.specs.declared.line_word.LineWord.{LineWord}

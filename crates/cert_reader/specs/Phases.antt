@@ -2,8 +2,9 @@
 use Rattle.std.specs.Prelude.{◌≡◌, ℕ, zero, suc, List, [], ◌∷◌, ◌++◌, codes}
 use Rattle.cert_lines.specs.Line.{Step, Line}
 use Rattle.logic_text.specs.Certs.{spaced_number, spaced_whole, spaced_node, numbers_text, steps_text, lines_text}
-use Rattle.logic_text.specs.Phases.{After}
-use Rattle.logic_text.specs.Fits.{IsIndex, IsCount, IsNumber, IsTerm, IsFormula, IsStep, AreLines, Every}
+use Rattle.term_reader.specs.Phases.{After}
+use Rattle.term_reader.specs.Values.{IsIndex, IsCount, IsNumber, IsTerm, IsFormula}
+use Rattle.logic_text.specs.Fits.{IsStep, AreLines, Every}
 use Rattle.cert_reader.specs.declared.line_word.LineWord.{LineWord}
 use Rattle.cert_reader.specs.declared.line_word.LineWord.TheVariants as line
 

@@ -3,12 +3,13 @@
 ghost use Rattle.std.specs.Prelude.{◌≡◌, ◌<◌, ◌≤◌, ◌++◌, length, drop, IfOk, IfErr};
 ghost use Rattle.logic_terms.specs.View.{term as term_of, formula as formula_of};
 ghost use Rattle.logic_text.specs.Certs.{spaced_number, spaced_node};
-ghost use Rattle.logic_text.specs.Phases.{IsUpTo, IsBadAt};
+ghost use Rattle.term_reader.specs.Phases.{IsUpTo, IsBadAt};
 ghost use Rattle.cert_reader.specs.Phases.{Phase, index, term, formula, Has};
 
-use crate::nodes::{read_formula, read_term};
+use crate::nodes::{read_spaced_formula, read_spaced_term};
 use crate::numbers::read_index;
 use logic_terms::{Formula, Term};
+use sqlite_items::Boxed;
 use std::alloc::Global;
 use term_reader::ReadFault;
 
@@ -16,7 +17,7 @@ use term_reader::ReadFault;
 #[derive(Drop)]
 pub struct IndexTerm {
     pub index: u32,
-    pub term: Term,
+    pub term: Boxed<Term>,
     pub to: usize,
 }
 
@@ -31,7 +32,7 @@ pub fn read_index_term(alloc: Global, bytes: &[u8], at: usize) -> Result<IndexTe
 {
     match read_index(bytes, at) {
         Err(fault) => Err(fault),
-        Ok(index) => match read_term(alloc, bytes, index.to) {
+        Ok(index) => match read_spaced_term(alloc, bytes, index.to) {
             Err(fault) => Err(fault),
             Ok(read) => Ok(IndexTerm {
                 index: index.value,
@@ -46,7 +47,7 @@ pub fn read_index_term(alloc: Global, bytes: &[u8], at: usize) -> Result<IndexTe
 #[derive(Drop)]
 pub struct IndexFormula {
     pub index: u32,
-    pub formula: Formula,
+    pub formula: Boxed<Formula>,
     pub to: usize,
 }
 
@@ -61,7 +62,7 @@ pub fn read_index_formula(alloc: Global, bytes: &[u8], at: usize) -> Result<Inde
 {
     match read_index(bytes, at) {
         Err(fault) => Err(fault),
-        Ok(index) => match read_formula(alloc, bytes, index.to) {
+        Ok(index) => match read_spaced_formula(alloc, bytes, index.to) {
             Err(fault) => Err(fault),
             Ok(read) => Ok(IndexFormula {
                 index: index.value,
@@ -75,8 +76,8 @@ pub fn read_index_formula(alloc: Global, bytes: &[u8], at: usize) -> Result<Inde
 /// Two terms, and the place after them.
 #[derive(Drop)]
 pub struct TermTerm {
-    pub left: Term,
-    pub right: Term,
+    pub left: Boxed<Term>,
+    pub right: Boxed<Term>,
     pub to: usize,
 }
 
@@ -89,9 +90,9 @@ pub fn read_terms(alloc: Global, bytes: &[u8], at: usize) -> Result<TermTerm, Re
     ensures on { IfOk result (λ r. (p : Phase) → IsUpTo (Has (term (term p))) (drop at bytes.now) (Has p) (drop r.to bytes.now)) }
     ensures fault { IfErr result (λ f. (p : Phase) → IsBadAt (Has (term (term p))) bytes.now at f) }
 {
-    match read_term(alloc, bytes, at) {
+    match read_spaced_term(alloc, bytes, at) {
         Err(fault) => Err(fault),
-        Ok(left) => match read_term(alloc, bytes, left.to) {
+        Ok(left) => match read_spaced_term(alloc, bytes, left.to) {
             Err(fault) => Err(fault),
             Ok(right) => Ok(TermTerm {
                 left: left.term,
@@ -105,8 +106,8 @@ pub fn read_terms(alloc: Global, bytes: &[u8], at: usize) -> Result<TermTerm, Re
 /// A term and a formula, and the place after them.
 #[derive(Drop)]
 pub struct TermFormula {
-    pub term: Term,
-    pub formula: Formula,
+    pub term: Boxed<Term>,
+    pub formula: Boxed<Formula>,
     pub to: usize,
 }
 
@@ -119,9 +120,9 @@ pub fn read_term_formula(alloc: Global, bytes: &[u8], at: usize) -> Result<TermF
     ensures on { IfOk result (λ r. (p : Phase) → IsUpTo (Has (term (formula p))) (drop at bytes.now) (Has p) (drop r.to bytes.now)) }
     ensures fault { IfErr result (λ f. (p : Phase) → IsBadAt (Has (term (formula p))) bytes.now at f) }
 {
-    match read_term(alloc, bytes, at) {
+    match read_spaced_term(alloc, bytes, at) {
         Err(fault) => Err(fault),
-        Ok(term) => match read_formula(alloc, bytes, term.to) {
+        Ok(term) => match read_spaced_formula(alloc, bytes, term.to) {
             Err(fault) => Err(fault),
             Ok(read) => Ok(TermFormula {
                 term: term.term,

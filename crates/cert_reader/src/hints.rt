@@ -3,7 +3,7 @@
 ghost use Rattle.std.specs.Prelude.{◌≡◌, ◌<◌, ◌≤◌, ◌++◌, ℕ, List, length, drop, IfOk, IfErr};
 ghost use Rattle.term_reader.specs.Bytes.{first};
 ghost use Rattle.logic_text.specs.Certs.{numbers_text};
-ghost use Rattle.logic_text.specs.Phases.{IsUpTo, IsBadAt};
+ghost use Rattle.term_reader.specs.Phases.{IsUpTo, IsBadAt};
 ghost use Rattle.cert_reader.specs.Phases.{hints as hints_phase, ended, Has};
 
 use crate::numbers::read_index;

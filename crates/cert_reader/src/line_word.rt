@@ -5,7 +5,7 @@ ghost use Rattle.term_reader.specs.Words.{word_at, IsNoWord};
 ghost use Rattle.cert_reader.specs.Words.{line_words, word_of, words};
 ghost use Rattle.cert_reader.specs.declared.line_word.LineWord.{LineWord};
 
-use term_reader::common;
+use term_reader::{common, greater};
 
 /// What a line begins with, the last line included.
 #[derive(Clone, Copy, Debug, PartialEq, Eq)]
@@ -65,13 +65,6 @@ fn row_at(place: usize) -> Option<Row>
         15 => make_row(b"end", LineWord::End),
         _ => None,
     }
-}
-
-/// The greater of two numbers.
-fn greater(a: usize, b: usize) -> usize
-    ensures { result ≡ max a b }
-{
-    if a < b { b } else { a }
 }
 
 /// The word of a line, and the place after it.

@@ -4,7 +4,7 @@ ghost use Rattle.std.specs.Prelude.{◌≡◌, ◌≢◌, ◌≤◌, ◌++◌, l
 ghost use Rattle.cert_lines.specs.View.{line as line_of};
 ghost use Rattle.logic_text.specs.Certs.{lines_text};
 ghost use Rattle.logic_text.specs.Goals.{line_end};
-ghost use Rattle.logic_text.specs.Phases.{IsBadAt};
+ghost use Rattle.term_reader.specs.Phases.{IsBadAt};
 ghost use Rattle.cert_reader.specs.Entries.{IsLine, IsEntry};
 ghost use Rattle.cert_reader.specs.Phases.{InLines, finish, Has, fields};
 ghost use Rattle.cert_reader.specs.declared.line_word.LineWord.{LineWord};

@@ -3,10 +3,10 @@
 ghost use Rattle.std.specs.Prelude.{◌≡◌, ◌<◌, ◌≤◌, ◌++◌, length, drop, map, IfOk, IfErr};
 ghost use Rattle.logic_terms.specs.View.{formula as formula_of};
 ghost use Rattle.logic_text.specs.Certs.{nodes_text, literals_text};
-ghost use Rattle.logic_text.specs.Phases.{IsUpTo, IsBadAt};
+ghost use Rattle.term_reader.specs.Phases.{IsUpTo, IsBadAt};
 ghost use Rattle.cert_reader.specs.Phases.{Phase, times, counted, Has};
 
-use crate::nodes::read_formula;
+use crate::nodes::read_spaced_formula;
 use crate::numbers::read_count;
 use logic_terms::FormulaList;
 use sqlite_items::Items;
@@ -34,9 +34,9 @@ fn read_formulas(alloc: Global, bytes: &[u8], at: usize, count: u64) -> Result<L
     let mut left = count;
     let mut to = at;
     while left > 0 {
-        match read_formula(alloc, bytes, to) {
+        match read_spaced_formula(alloc, bytes, to) {
             Err(fault) => return Err(fault),
-            Ok(read) => match literals.push(read.formula) {
+            Ok(read) => match literals.push(read.formula.into_inner()) {
                 Err(_) => return Err(ReadFault::Starved),
                 Ok(()) => {
                     to = read.to;

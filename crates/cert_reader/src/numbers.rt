@@ -1,14 +1,11 @@
 //! Numbers, each with a space before it.
 
-ghost use Rattle.std.specs.Prelude.{◌≡◌, ◌≢◌, ◌+◌, ◌-◌, ◌^◌, ◌<◌, ◌≤◌, ◌∷◌, ◌++◌, length, drop, pos, negsuc, IfOk, IfErr};
-ghost use Rattle.logic_terms.specs.Text.{whole_text};
-ghost use Rattle.term_reader.specs.Bytes.{first, Ends, IsFault};
+ghost use Rattle.std.specs.Prelude.{◌≡◌, ◌<◌, ◌≤◌, ◌++◌, length, drop, IfOk, IfErr};
 ghost use Rattle.logic_text.specs.Certs.{spaced_number, spaced_whole};
-ghost use Rattle.logic_text.specs.Phases.{IsUpTo, IsBadAt};
-ghost use Rattle.logic_text.specs.Fits.{IsNumber};
+ghost use Rattle.term_reader.specs.Phases.{IsUpTo, IsBadAt};
 ghost use Rattle.cert_reader.specs.Phases.{Phase, index, whole, times, counted, Has};
 
-use term_reader::{ReadFault, byte_at, read_number, read_word};
+use term_reader::{ReadFault, Whole, read_number, read_whole, read_word};
 
 /// A number of 32 bits that is read, and the place after it.
 #[derive(Clone, Copy)]
@@ -66,100 +63,8 @@ pub fn read_count(bytes: &[u8], at: usize) -> Result<Count, ReadFault>
     }
 }
 
-/// A number of 128 bits with a sign, and the place after it.
-#[derive(Clone, Copy)]
-pub struct Whole {
-    pub value: i128,
-    pub to: usize,
-}
-
-/// The greatest number of 128 bits with a sign.
-const MOST: u128 = 170_141_183_460_469_231_731_687_303_715_884_105_727;
-
-/// The number as one with a sign.
-#[tactic(auto, using(std::proofs::lemmas::Int::ints))]
-fn with_sign(number: u128) -> i128
-    requires { number < 2 ^ 127 }
-    ensures { result ≡ pos number }
-{
-    number as i128
-}
-
-/// The number below 0 by so much.
-#[tactic(auto, using(std::proofs::lemmas::Int::ints))]
-fn negated(number: u128) -> i128
-    requires some { 1 ≤ number }
-    requires most { number ≤ 2 ^ 127 }
-    ensures { result ≡ negsuc (number - 1) }
-{
-    let below = (number - 1) as i128;
-    -1 - below
-}
-
-/// Reads a negative number at its sign.
-fn read_negative(bytes: &[u8], at: usize) -> Result<Whole, usize>
-    requires place { at < length bytes.now }
-    requires sign { drop at bytes.now ≡ 45 ∷ drop (at + 1) bytes.now }
-    ensures before { IfOk result (λ r. at < r.to) }
-    ensures inside { IfOk result (λ r. r.to ≤ length bytes.now) }
-    ensures number { IfOk result (λ r. IsNumber r.value) }
-    ensures text { IfOk result (λ r. drop at bytes.now ≡ whole_text r.value ++ drop r.to bytes.now) }
-    ensures ends { IfOk result (λ r. Ends (drop r.to bytes.now)) }
-    ensures place { IfErr result (λ to. to ≤ length bytes.now) }
-    ensures fault { IfErr result (λ to. IsFault IsNumber whole_text (drop at bytes.now) (drop to bytes.now)) }
-{
-    match read_number(bytes, at + 1, 1, MOST + 1) {
-        Err(to) => Err(to),
-        Ok(number) => Ok(Whole {
-            value: negated(number.value),
-            to: number.to,
-        }),
-    }
-}
-
-/// Reads a number with no sign.
-fn read_natural(bytes: &[u8], at: usize) -> Result<Whole, usize>
-    requires place { at ≤ length bytes.now }
-    requires sign { first (drop at bytes.now) ≢ 45 }
-    ensures before { IfOk result (λ r. at < r.to) }
-    ensures inside { IfOk result (λ r. r.to ≤ length bytes.now) }
-    ensures number { IfOk result (λ r. IsNumber r.value) }
-    ensures text { IfOk result (λ r. drop at bytes.now ≡ whole_text r.value ++ drop r.to bytes.now) }
-    ensures ends { IfOk result (λ r. Ends (drop r.to bytes.now)) }
-    ensures place { IfErr result (λ to. to ≤ length bytes.now) }
-    ensures fault { IfErr result (λ to. IsFault IsNumber whole_text (drop at bytes.now) (drop to bytes.now)) }
-{
-    match read_number(bytes, at, 0, MOST) {
-        Err(to) => Err(to),
-        Ok(number) => Ok(Whole {
-            value: with_sign(number.value),
-            to: number.to,
-        }),
-    }
-}
-
-/// Reads a number of 128 bits with no space before it.
-#[tactic(auto, using(term_reader::proofs::Fronts::first_is))]
-fn read_unspaced(bytes: &[u8], at: usize) -> Result<Whole, usize>
-    requires { at ≤ length bytes.now }
-    ensures before { IfOk result (λ r. at < r.to) }
-    ensures inside { IfOk result (λ r. r.to ≤ length bytes.now) }
-    ensures number { IfOk result (λ r. IsNumber r.value) }
-    ensures text { IfOk result (λ r. drop at bytes.now ≡ whole_text r.value ++ drop r.to bytes.now) }
-    ensures ends { IfOk result (λ r. Ends (drop r.to bytes.now)) }
-    ensures place { IfErr result (λ to. to ≤ length bytes.now) }
-    ensures fault { IfErr result (λ to. IsFault IsNumber whole_text (drop at bytes.now) (drop to bytes.now)) }
-{
-    let byte = byte_at(bytes, at);
-    if byte == 45 {
-        read_negative(bytes, at)
-    } else {
-        read_natural(bytes, at)
-    }
-}
-
 /// Reads a space and a number of 128 bits with a sign.
-pub fn read_whole(bytes: &[u8], at: usize) -> Result<Whole, ReadFault>
+pub fn read_spaced_whole(bytes: &[u8], at: usize) -> Result<Whole, ReadFault>
     requires { at ≤ length bytes.now }
     ensures before { IfOk result (λ r. at < r.to) }
     ensures inside { IfOk result (λ r. r.to ≤ length bytes.now) }
@@ -169,7 +74,7 @@ pub fn read_whole(bytes: &[u8], at: usize) -> Result<Whole, ReadFault>
 {
     match read_word(bytes, at, b" ") {
         Err(to) => Err(ReadFault::BadText(to)),
-        Ok(from) => match read_unspaced(bytes, from) {
+        Ok(from) => match read_whole(bytes, from) {
             Err(to) => Err(ReadFault::BadText(to)),
             Ok(read) => Ok(read),
         },

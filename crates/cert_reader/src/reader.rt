@@ -3,7 +3,7 @@
 ghost use Rattle.std.specs.Prelude.{◌≡◌, ◌≤◌, length, IfOk, IfErr};
 ghost use Rattle.cert_lines.specs.View.{lines as lines_of};
 ghost use Rattle.logic_text.specs.Certs.{cert_bytes};
-ghost use Rattle.logic_text.specs.Phases.{IsBadAt};
+ghost use Rattle.term_reader.specs.Phases.{IsBadAt};
 ghost use Rattle.cert_reader.specs.Answers.{IsCertFault, most_cert_bytes};
 ghost use Rattle.cert_reader.specs.Phases.{AtStart};
 
@@ -42,8 +42,7 @@ pub fn read_cert(alloc: Global, bytes: &[u8]) -> Result<Cert, TextFault>
         return Err(TextFault::TooLong);
     }
     match read_whole(alloc, bytes) {
-        Err(ReadFault::BadText(at)) => Err(TextFault::BadText(at)),
-        Err(ReadFault::Starved) => Err(TextFault::Starved),
+        Err(fault) => Err(TextFault::from(fault)),
         Ok(cert) => Ok(cert),
     }
 }

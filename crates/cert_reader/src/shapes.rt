@@ -1,7 +1,7 @@
 //! Lines after their words.
 
 ghost use Rattle.std.specs.Prelude.{◌≢◌, ◌≤◌, length, IfOk, IfErr};
-ghost use Rattle.logic_text.specs.Phases.{IsBadAt};
+ghost use Rattle.term_reader.specs.Phases.{IsBadAt};
 ghost use Rattle.cert_reader.specs.Entries.{IsFields};
 ghost use Rattle.cert_reader.specs.Phases.{fields, Has};
 ghost use Rattle.cert_reader.specs.declared.line_word.LineWord.{LineWord};
@@ -10,8 +10,8 @@ use crate::fields::{read_index_formula, read_index_term, read_term_formula, read
 use crate::hints::read_hints;
 use crate::line_word::LineWord;
 use crate::literals::read_literals;
-use crate::nodes::read_formula;
-use crate::numbers::{read_index, read_whole};
+use crate::nodes::read_spaced_formula;
+use crate::numbers::{read_index, read_spaced_whole};
 use crate::steps::read_steps;
 use cert_lines::CertLine;
 use std::alloc::Global;
@@ -181,7 +181,7 @@ fn read_same(alloc: Global, bytes: &[u8], at: usize) -> Result<LineRead, ReadFau
         Err(fault) => Err(fault),
         Ok(direction) => match read_index_formula(alloc, bytes, direction.to) {
             Err(fault) => Err(fault),
-            Ok(read) => match read_formula(alloc, bytes, read.to) {
+            Ok(read) => match read_spaced_formula(alloc, bytes, read.to) {
                 Err(fault) => Err(fault),
                 Ok(literal) => Ok(LineRead {
                     line: CertLine::Same {
@@ -259,7 +259,7 @@ fn read_div(alloc: Global, bytes: &[u8], at: usize) -> Result<LineRead, ReadFaul
 {
     match read_index_term(alloc, bytes, at) {
         Err(fault) => Err(fault),
-        Ok(read) => match read_whole(bytes, read.to) {
+        Ok(read) => match read_spaced_whole(bytes, read.to) {
             Err(fault) => Err(fault),
             Ok(divisor) => Ok(LineRead {
                 line: CertLine::Div {
@@ -297,7 +297,7 @@ fn read_calc(alloc: Global, bytes: &[u8], at: usize) -> Result<LineRead, ReadFau
     ensures ok { IfOk result (λ r. IsFields LineWord.Calc r.line bytes.now at r.to) }
     ensures fault { IfErr result (λ f. IsBadAt (Has (fields LineWord.Calc)) bytes.now at f) }
 {
-    match read_formula(alloc, bytes, at) {
+    match read_spaced_formula(alloc, bytes, at) {
         Err(fault) => Err(fault),
         Ok(read) => Ok(LineRead {
             line: CertLine::Calc(read.formula),

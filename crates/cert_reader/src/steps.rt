@@ -4,10 +4,10 @@ ghost use Rattle.std.specs.Prelude.{◌≡◌, ◌+◌, ◌<◌, ◌≤◌, ◌�
 ghost use Rattle.cert_lines.specs.View.{step as step_of};
 ghost use Rattle.term_reader.specs.Bytes.{first};
 ghost use Rattle.logic_text.specs.Certs.{scaled_text, step_text, steps_text};
-ghost use Rattle.logic_text.specs.Phases.{IsUpTo, IsBadAt};
+ghost use Rattle.term_reader.specs.Phases.{IsUpTo, IsBadAt};
 ghost use Rattle.cert_reader.specs.Phases.{Phase, index, whole, steps as steps_phase, ended, Has};
 
-use crate::numbers::{read_index, read_whole};
+use crate::numbers::{read_index, read_spaced_whole};
 use cert_lines::{StepLine, StepLines};
 use sqlite_items::Items;
 use std::alloc::Global;
@@ -32,7 +32,7 @@ fn read_scaled(bytes: &[u8], at: usize) -> Result<Scaled, ReadFault>
 {
     match read_index(bytes, at) {
         Err(fault) => Err(fault),
-        Ok(form) => match read_whole(bytes, form.to) {
+        Ok(form) => match read_spaced_whole(bytes, form.to) {
             Err(fault) => Err(fault),
             Ok(by) => Ok(Scaled {
                 form: form.value,

@@ -1,7 +1,7 @@
 -- Lines of formulas that are read.
-use Rattle.std.proofs.Common.{◌≡◌, refl, sym, ◌∙◌, ap, ℕ, ◌<◌, ◌≤◌, true, List, [], ◌∷◌, ◌++◌, length, get_or, drop, map, append_assoc, codes, arith}
+use Rattle.std.proofs.Common.{◌≡◌, refl, sym, ◌∙◌, ap, ℕ, ◌≤◌, true, List, [], ◌∷◌, ◌++◌, length, drop, map, codes}
 use Rattle.std.proofs.Math.Seq.{drop-length}
-use Rattle.std.proofs.lemmas.List.{map-append, append-nil}
+use Rattle.std.proofs.lemmas.List.{append-nil}
 use Rattle.logic_terms.specs.Node.{Node, flag}
 use Rattle.logic_terms.specs.View.{formula}
 use Rattle.logic_terms.specs.declared.syntax.Formula.{Formula}
@@ -13,13 +13,14 @@ use Rattle.term_reader.specs.Trees.{of_node}
 use Rattle.term_reader.specs.declared.fault.ReadFault.{ReadFault}
 use Rattle.term_reader.specs.declared.fault.ReadFault.TheVariants as fault
 use Rattle.term_reader.specs.declared.part.Side.TheVariants as side
-use Rattle.term_reader.proofs.Digits.{same_head}
-use Rattle.term_reader.proofs.Fronts.{first_dropped}
+use Rattle.term_reader.proofs.Rows.{IsRow, one_more}
+use Rattle.term_reader.proofs.WholeTexts.{not_end}
 use Rattle.logic_text.specs.Goals.{hypotheses_text, conclusion_text}
-use Rattle.logic_text.specs.Phases.{After, OfPart, AtEnd, InLines, Rest, more_lines, nothing, Has, Line, IsUpTo, IsBadAt}
+use Rattle.term_reader.specs.Phases.{After, OfPart, IsUpTo, IsBadAt}
+use Rattle.logic_text.specs.Phases.{AtEnd, InLines, Rest, more_lines, nothing, Has, Line}
 use Rattle.logic_text.proofs.GoalTexts.{line_then}
-use Rattle.logic_text.proofs.Places.{bad_at, part_bad_at, part_read_at, word_bad_at, steps_at, word_at}
-use Rattle.logic_text.proofs.Reaching.{upto_same, nothing_bad}
+use Rattle.term_reader.proofs.Places.{bad_at, part_bad_at, part_read_at, word_bad_at, steps_at, word_at}
+use Rattle.term_reader.proofs.Reaching.{upto_same, nothing_bad}
 use Rattle.logic_text.proofs.Turns.{some_has, lines_in, lines_out, last_in, last_out}
 
 -- ---- one line
@@ -64,18 +65,12 @@ line_text w p bytes at a b c e r f =
 
 -- ---- hypotheses
 
-hypotheses_pushed : (ps : List Node) (p : Node) (r : List ℕ) → hypotheses_text (ps ++ p ∷ []) ++ r ≡ hypotheses_text ps ++ (((codes "hyp " ++ node_text p) ++ (10 ∷ [])) ++ r)
-hypotheses_pushed [] p r = ap (λ (x : List ℕ). x ++ r) (append-nil ((codes "hyp " ++ node_text p) ++ (10 ∷ [])))
-hypotheses_pushed (q ∷ ps) p r =
-    append_assoc ((codes "hyp " ++ node_text q) ++ (10 ∷ [])) (hypotheses_text (ps ++ p ∷ [])) r
-    ∙ ap (λ (x : List ℕ). ((codes "hyp " ++ node_text q) ++ (10 ∷ [])) ++ x) (hypotheses_pushed ps p r)
-    ∙ sym (append_assoc ((codes "hyp " ++ node_text q) ++ (10 ∷ [])) (hypotheses_text ps) (((codes "hyp " ++ node_text p) ++ (10 ∷ [])) ++ r))
+hypotheses_row : IsRow (λ (p : Node). (codes "hyp " ++ node_text p) ++ (10 ∷ [])) hypotheses_text
+hypotheses_row = record { none = refl; next = λ p ps. refl }
 
 pub hypothesis_text : (old new : List Formula) (p : Formula) (bytes : List ℕ) (at to : ℕ) → new ≡ old ++ p ∷ [] → drop at bytes ≡ ((codes "hyp " ++ node_text (formula p)) ++ (10 ∷ [])) ++ drop to bytes → (s : List ℕ) → s ≡ hypotheses_text (map formula old) ++ drop at bytes → s ≡ hypotheses_text (map formula new) ++ drop to bytes
 hypothesis_text old new p bytes at to e f s h =
-    h ∙ ap (λ (v : List ℕ). hypotheses_text (map formula old) ++ v) f
-    ∙ sym (hypotheses_pushed (map formula old) (formula p) (drop to bytes))
-    ∙ ap (λ (ps : List Node). hypotheses_text ps ++ drop to bytes) (sym (map-append formula old (p ∷ [])) ∙ ap (map formula) (sym e))
+    one_more formula (λ (q : Node). (codes "hyp " ++ node_text q) ++ (10 ∷ [])) hypotheses_text hypotheses_row old new p s (drop at bytes) (drop to bytes) e f h
 
 lines_front : (bytes : List ℕ) (at : ℕ) → first (drop at bytes) ≡ 104 → IsUpTo InLines (drop at bytes) (Line (codes "hyp ") more_lines) (drop at bytes)
 lines_front bytes at e = upto_same InLines (Line (codes "hyp ") more_lines) (drop at bytes) lines_in (λ x f. lines_out x (f ∙ e))
@@ -94,18 +89,12 @@ last_front bytes at n = upto_same InLines (Line (codes "goal ") nothing) (drop a
 pub conclusion_bad : (bytes : List ℕ) (at : ℕ) (f : ReadFault) → (first (drop at bytes) ≡ 104 → ⊥) → ((n : Rest) → IsBadAt (Line (codes "goal ") n) bytes at f) → IsBadAt InLines bytes at f
 conclusion_bad bytes at f n b = bad_at InLines (Line (codes "goal ") nothing) bytes at at f (last_front bytes at n) (b nothing)
 
-not_end : (c : ℕ) (rest : List ℕ) → (c ≡ 256 → ⊥) → c ∷ rest ≡ 256 ∷ [] → ⊥
-not_end c rest n e = n (same_head c 256 rest [] e)
-
 -- more after the last line
 pub more_bad : (bytes : List ℕ) (at to : ℕ) → (first (drop at bytes) ≡ 104 → ⊥) → ((n : Rest) → IsUpTo (Line (codes "goal ") n) (drop at bytes) (Has n) (drop to bytes)) → to ≤ length bytes → (first (drop to bytes) ≡ 256 → ⊥) → IsBadAt InLines bytes at (fault.BadText to)
 more_bad bytes at to n u h m =
     bad_at InLines (Line (codes "goal ") nothing) bytes at at (fault.BadText to) (last_front bytes at n)
     (bad_at (Line (codes "goal ") nothing) AtEnd bytes at to (fault.BadText to) (u nothing)
     (h, nothing_bad AtEnd (drop to bytes) (256 ∷ []) refl (λ rest e. not_end (first (drop to bytes)) rest m e)))
-
-pub byte_before_end : (bytes : List ℕ) (to : ℕ) → to < length bytes → get_or bytes to 0 < 256 → first (drop to bytes) ≡ 256 → ⊥
-byte_before_end bytes to l b e = let f : get_or bytes to 0 ≡ 256 = sym (first_dropped bytes to l) ∙ e in omega arith
 
 pub last_text : (p : Node) (bytes : List ℕ) (at to : ℕ) → drop at bytes ≡ ((codes "goal " ++ node_text p) ++ (10 ∷ [])) ++ drop to bytes → to ≡ length bytes → drop at bytes ≡ conclusion_text p
 last_text p bytes at to e f =

@@ -1,9 +1,6 @@
 pub mod GoalTexts
 pub mod CertTexts
-pub mod Reaching
-pub mod WordMarks
 pub mod Turns
-pub mod Places
 pub mod Signatures
 pub mod Formulas
 pub mod Wholes

@@ -1,6 +1,5 @@
 -- Sorts and calls that are read.
-use Rattle.std.proofs.Common.{◌≡◌, sym, ◌∙◌, ap, ℕ, ◌+◌, ◌≤◌, List, [], ◌∷◌, ◌++◌, length, drop, map, append_assoc, codes}
-use Rattle.std.proofs.lemmas.List.{map-append, append-nil}
+use Rattle.std.proofs.Common.{◌≡◌, refl, sym, ◌∙◌, ap, ℕ, ◌+◌, ◌≤◌, List, [], ◌∷◌, ◌++◌, length, drop, map, append_assoc, codes}
 use Rattle.logic_terms.specs.Goal.{called_as}
 use Rattle.logic_terms.specs.Sorts.{sort, kinds_in}
 use Rattle.logic_terms.specs.Sorting.{Called}
@@ -18,26 +17,23 @@ use Rattle.term_reader.specs.declared.fault.ReadFault.TheVariants as fault
 use Rattle.term_reader.specs.declared.part.Side.TheVariants as side
 use Rattle.logic_text.specs.Answers.{kinds_of}
 use Rattle.logic_text.specs.Goals.{sorts_text, taken_text, call_text, calls_text}
-use Rattle.logic_text.specs.Phases.{After, OfPart, AtStart, InSorts, InCalls, InCall, InLines, IsUpTo, IsBadAt}
-use Rattle.logic_text.proofs.GoalTexts.{part_then, call_then}
-use Rattle.logic_text.proofs.Places.{bad_at, part_bad_at, part_read_at, word_bad_at, steps_at, word_at}
-use Rattle.logic_text.proofs.Reaching.{upto_same, nothing_bad}
+use Rattle.term_reader.specs.Phases.{After, OfPart, IsUpTo, IsBadAt}
+use Rattle.logic_text.specs.Phases.{AtStart, InSorts, InCalls, InCall, InLines}
+use Rattle.logic_text.proofs.GoalTexts.{call_then}
+use Rattle.term_reader.proofs.Rows.{IsRow, one_more}
+use Rattle.term_reader.proofs.Places.{bad_at, part_bad_at, part_read_at, word_bad_at, steps_at, word_at}
+use Rattle.term_reader.proofs.Reaching.{upto_same, nothing_bad}
 use Rattle.logic_text.proofs.Turns.{some_lines, some_calls, some_call, some_calls_line, some_sorts, some_mark, sorts_ends, sorts_in, sorts_out, sorts_over_in, sorts_over_out, calls_in, calls_out, calls_over_in, calls_over_out, InMark, mark_ends, call_in, call_out, mark_space, mark_bracket, no_mark, space, bracket}
 
 -- ---- sorts of symbols
 
-sorts_pushed : (ks : List Kind) (k : Kind) (r : List ℕ) → sorts_text (ks ++ k ∷ []) ++ r ≡ sorts_text ks ++ (32 ∷ (kind_text k ++ r))
-sorts_pushed [] k r = part_then (32 ∷ []) (kind_text k) [] r
-sorts_pushed (j ∷ ks) k r =
-    append_assoc (32 ∷ kind_text j) (sorts_text (ks ++ k ∷ [])) r
-    ∙ ap (λ (x : List ℕ). (32 ∷ kind_text j) ++ x) (sorts_pushed ks k r)
-    ∙ sym (append_assoc (32 ∷ kind_text j) (sorts_text ks) (32 ∷ (kind_text k ++ r)))
+sorts_row : IsRow (λ (k : Kind). 32 ∷ kind_text k) sorts_text
+sorts_row = record { none = refl; next = λ k ks. refl }
 
 pub symbol_text : (old new : List Symbol) (x : Symbol) (bytes : List ℕ) (at to : ℕ) → new ≡ old ++ x ∷ [] → drop at bytes ≡ 32 ∷ drop (at + 1) bytes → IsRead side.Sort (of_kind (sort x.sort)) bytes (at + 1) to → (s : List ℕ) → s ≡ sorts_text (kinds_of old) ++ drop at bytes → s ≡ sorts_text (kinds_of new) ++ drop to bytes
 symbol_text old new x bytes at to e f r s h =
-    h ∙ ap (λ (v : List ℕ). sorts_text (kinds_of old) ++ v) (f ∙ ap (λ (v : List ℕ). 32 ∷ v) r.text)
-    ∙ sym (sorts_pushed (kinds_of old) (sort x.sort) (drop to bytes))
-    ∙ ap (λ (ks : List Kind). sorts_text ks ++ drop to bytes) (sym (map-append (λ (y : Symbol). sort y.sort) old (x ∷ [])) ∙ ap kinds_of (sym e))
+    one_more (λ (y : Symbol). sort y.sort) (λ (k : Kind). 32 ∷ kind_text k) sorts_text sorts_row old new x s (drop at bytes) (drop to bytes) e
+    (f ∙ ap (λ (v : List ℕ). 32 ∷ v) r.text) h
 
 symbol_front : (bytes : List ℕ) (at : ℕ) → drop at bytes ≡ 32 ∷ drop (at + 1) bytes → IsUpTo InSorts (drop at bytes) (OfPart side.Sort InSorts) (drop (at + 1) bytes)
 symbol_front bytes at e =
@@ -86,18 +82,16 @@ ended_text w t bytes at a b c e f g = e ∙ ap (λ (x : List ℕ). w ++ x) (f �
 
 -- ---- the sorts of a call
 
-taken_pushed : (ks : List Sort) (k : Sort) (r : List ℕ) → taken_text (kinds_in (map sort (ks ++ k ∷ []))) ++ r ≡ taken_text (kinds_in (map sort ks)) ++ (kind_text (sort k) ++ (32 ∷ r))
-taken_pushed [] k r = ap (λ (x : List ℕ). x ++ r) (append-nil (kind_text (sort k) ++ (32 ∷ []))) ∙ append_assoc (kind_text (sort k)) (32 ∷ []) r
-taken_pushed (j ∷ ks) k r =
-    append_assoc (kind_text (sort j) ++ (32 ∷ [])) (taken_text (kinds_in (map sort (ks ++ k ∷ [])))) r
-    ∙ ap (λ (x : List ℕ). (kind_text (sort j) ++ (32 ∷ [])) ++ x) (taken_pushed ks k r)
-    ∙ sym (append_assoc (kind_text (sort j) ++ (32 ∷ [])) (taken_text (kinds_in (map sort ks))) (kind_text (sort k) ++ (32 ∷ r)))
+abbrev takens_text : List Kind → List ℕ
+takens_text ks = taken_text (kinds_in ks)
+
+takens_row : IsRow (λ (k : Kind). kind_text k ++ (32 ∷ [])) takens_text
+takens_row = record { none = refl; next = λ k ks. refl }
 
 pub argument_text : (old new : List Sort) (x : Sort) (bytes : List ℕ) (at to : ℕ) → new ≡ old ++ x ∷ [] → drop to bytes ≡ 32 ∷ drop (to + 1) bytes → IsRead side.Sort (of_kind (sort x)) bytes at to → (s : List ℕ) → s ≡ taken_text (kinds_in (map sort old)) ++ drop at bytes → s ≡ taken_text (kinds_in (map sort new)) ++ drop (to + 1) bytes
 argument_text old new x bytes at to e f r s h =
-    h ∙ ap (λ (v : List ℕ). taken_text (kinds_in (map sort old)) ++ v) (r.text ∙ ap (λ (v : List ℕ). kind_text (sort x) ++ v) f)
-    ∙ sym (taken_pushed old x (drop (to + 1) bytes))
-    ∙ ap (λ (ss : List Sort). taken_text (kinds_in (map sort ss)) ++ drop (to + 1) bytes) (sym e)
+    one_more sort (λ (k : Kind). kind_text k ++ (32 ∷ [])) takens_text takens_row old new x s (drop at bytes) (drop (to + 1) bytes) e
+    (r.text ∙ ap (λ (v : List ℕ). kind_text (sort x) ++ v) f ∙ sym (append_assoc (kind_text (sort x)) (32 ∷ []) (drop (to + 1) bytes))) h
 
 call_part : (bytes : List ℕ) (at : ℕ) → IsUpTo InCall (drop at bytes) (OfPart side.Sort InMark) (drop at bytes)
 call_part bytes at = upto_same InCall (OfPart side.Sort InMark) (drop at bytes) call_in (λ x f h. call_out x h)
@@ -145,18 +139,13 @@ called_text c bytes at a b e f =
     ∙ sym (append_assoc (taken_text (kinds_in (map sort c.arguments))) (kind_text (sort c.answer)) (41 ∷ drop b bytes)))
     ∙ sym (call_then (called_as c) (drop b bytes))
 
-calls_pushed : (cs : List Called) (c : Called) (r : List ℕ) → calls_text (cs ++ c ∷ []) ++ r ≡ calls_text cs ++ (32 ∷ (call_text c ++ r))
-calls_pushed [] c r = part_then (32 ∷ []) (call_text c) [] r
-calls_pushed (d ∷ cs) c r =
-    append_assoc (32 ∷ call_text d) (calls_text (cs ++ c ∷ [])) r
-    ∙ ap (λ (x : List ℕ). (32 ∷ call_text d) ++ x) (calls_pushed cs c r)
-    ∙ sym (append_assoc (32 ∷ call_text d) (calls_text cs) (32 ∷ (call_text c ++ r)))
+calls_row : IsRow (λ (c : Called). 32 ∷ call_text c) calls_text
+calls_row = record { none = refl; next = λ c cs. refl }
 
 pub next_call_text : (old new : List Call) (c : Call) (bytes : List ℕ) (at a to : ℕ) → new ≡ old ++ c ∷ [] → drop at bytes ≡ (32 ∷ (40 ∷ [])) ++ drop a bytes → 40 ∷ drop a bytes ≡ call_text (called_as c) ++ drop to bytes → (s : List ℕ) → s ≡ calls_text (map called_as old) ++ drop at bytes → s ≡ calls_text (map called_as new) ++ drop to bytes
 next_call_text old new c bytes at a to e f g s h =
-    h ∙ ap (λ (v : List ℕ). calls_text (map called_as old) ++ v) (f ∙ ap (λ (v : List ℕ). 32 ∷ v) g)
-    ∙ sym (calls_pushed (map called_as old) (called_as c) (drop to bytes))
-    ∙ ap (λ (cs : List Called). calls_text cs ++ drop to bytes) (sym (map-append called_as old (c ∷ [])) ∙ ap (map called_as) (sym e))
+    one_more called_as (λ (d : Called). 32 ∷ call_text d) calls_text calls_row old new c s (drop at bytes) (drop to bytes) e
+    (f ∙ ap (λ (v : List ℕ). 32 ∷ v) g) h
 
 calls_front : (bytes : List ℕ) (at : ℕ) → first (drop at bytes) ≡ 32 → IsUpTo InCalls (drop at bytes) (After (32 ∷ (40 ∷ [])) InCall) (drop at bytes)
 calls_front bytes at e = upto_same InCalls (After (32 ∷ (40 ∷ [])) InCall) (drop at bytes) calls_in (λ x f. calls_out x (f ∙ e))

@@ -13,7 +13,8 @@ use Rattle.term_reader.specs.declared.part.Side.TheVariants.{Formula, Sort}
 use Rattle.term_reader.proofs.Builds.{no_sort_node}
 use Rattle.term_reader.proofs.Digits.{same_head}
 use Rattle.logic_text.specs.Goals.{sorts_text, taken_text, call_text, calls_text, hypotheses_text, conclusion_text}
-use Rattle.logic_text.specs.Phases.{After, OfPart, AtEnd, InLines, InCalls, InCall, InSorts, Rest, more_lines, nothing, Has, Line}
+use Rattle.term_reader.specs.Phases.{After, OfPart}
+use Rattle.logic_text.specs.Phases.{AtEnd, InLines, InCalls, InCall, InSorts, Rest, more_lines, nothing, Has, Line}
 use Rattle.logic_text.proofs.GoalTexts.{part_then, taken_then, call_then, called, line_then}
 
 -- ---- some text of each phase

@@ -1,5 +1,5 @@
 -- The answers for the bytes of a goal.
-use Rattle.std.specs.Prelude.{◌≡◌, ◌≤◌, ◌^◌, ◌*◌, ◌<◌, ℕ, suc, true, Bool, ◌&&◌, List, [], ◌∷◌, ◌++◌, length, take, map, None, All}
+use Rattle.std.specs.Prelude.{◌≡◌, ◌≤◌, ◌^◌, ◌*◌, ◌<◌, ℕ, true, Bool, ◌&&◌, List, [], ◌∷◌, length, map, None, All}
 use Rattle.logic_terms.specs.Sorts.{sort}
 use Rattle.logic_terms.specs.Value.{Kind}
 use Rattle.logic_terms.specs.declared.goal.Goal.{Goal}
@@ -9,6 +9,7 @@ use Rattle.logic_terms.specs.Node.{Node}
 use Rattle.logic_terms.specs.Sorting.{Problem}
 use Rattle.term_reader.specs.Values.{is_node}
 use Rattle.term_reader.specs.declared.part.Side.TheVariants.{Formula}
+use Rattle.term_reader.specs.Texts.{IsBadText}
 use Rattle.logic_text.specs.Goals.{goal_bytes}
 use Rattle.logic_text.specs.declared.fault.TextFault.{TextFault}
 use Rattle.logic_text.specs.declared.fault.TextFault.TheVariants as fault
@@ -21,17 +22,9 @@ are_formulas (p ∷ ps) = is_node Formula p && are_formulas ps
 abbrev pub IsGoal : Problem → Type 0
 IsGoal p = (are_formulas p.hypotheses ≡ true) × (is_node Formula p.conclusion ≡ true)
 
--- the end counts as a byte
-abbrev pub with_end : List ℕ → List ℕ
-with_end b = b ++ 256 ∷ []
-
--- the text of some goal begins so
-abbrev pub GoesOn : List ℕ → Type 0
-GoesOn front = (p : Problem) × (rest : List ℕ) × IsGoal p × (with_end (goal_bytes p) ≡ front ++ rest)
-
 -- byte `at` is the first after which no text of a goal goes on so
 abbrev pub IsBadGoal : List ℕ → ℕ → Type 0
-IsBadGoal b at = (at ≤ length b) × GoesOn (take at (with_end b)) × (¬ GoesOn (take (suc at) (with_end b)))
+IsBadGoal b at = IsBadText IsGoal goal_bytes b at
 
 abbrev pub kinds_of : List Symbol → List Kind
 kinds_of ss = map (λ s. sort s.sort) ss

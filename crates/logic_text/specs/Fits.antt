@@ -2,23 +2,7 @@
 use Rattle.std.specs.Prelude.{◌≡◌, ◌<◌, ◌^◌, ℕ, ℤ, true, List, [], ◌∷◌, length}
 use Rattle.logic_terms.specs.Node.{Node}
 use Rattle.cert_lines.specs.Line.{Step, sum_of, tighten, Line, given, opening, choice, propagation, linear, trichotomy, instance, witness, replacing, array_fact, extensionality, field_fact, division, product, computing}
-use Rattle.term_reader.specs.Values.{is_whole, is_node}
-use Rattle.term_reader.specs.declared.part.Side.TheVariants.{Term, Formula}
-
-abbrev pub IsIndex : ℕ → Type 0
-IsIndex k = k < 2 ^ 32
-
-abbrev pub IsCount : ℕ → Type 0
-IsCount k = k < 2 ^ 64
-
-abbrev pub IsNumber : ℤ → Type 0
-IsNumber z = is_whole z ≡ true
-
-abbrev pub IsTerm : Node → Type 0
-IsTerm n = is_node Term n ≡ true
-
-abbrev pub IsFormula : Node → Type 0
-IsFormula n = is_node Formula n ≡ true
+use Rattle.term_reader.specs.Values.{IsIndex, IsCount, IsNumber, IsTerm, IsFormula}
 
 abbrev pub Every : {A : Type 0} → (A → Type 0) → List A → Type 0
 Every P [] = Unit {0}

@@ -4,3 +4,4 @@ pub mod Answers
 pub mod Phases
 pub mod Takens
 pub mod Fits
+pub mod Faults

@@ -1,26 +1,14 @@
 -- What may follow in the text of a goal, phase by phase.
-use Rattle.std.specs.Prelude.{◌≡◌, ◌≤◌, ℕ, true, List, [], ◌∷◌, ◌++◌, codes, length, drop}
+use Rattle.std.specs.Prelude.{◌≡◌, ℕ, true, List, [], ◌∷◌, ◌++◌, codes}
 use Rattle.logic_terms.specs.Node.{Node}
 use Rattle.logic_terms.specs.Value.{Kind, Kinds}
 use Rattle.logic_terms.specs.Sorting.{Called}
-use Rattle.term_reader.specs.Bytes.{first}
-use Rattle.term_reader.specs.declared.fault.ReadFault.{ReadFault}
-use Rattle.term_reader.specs.declared.fault.ReadFault.TheVariants as fault
 use Rattle.term_reader.specs.Sorts.{kind_text}
-use Rattle.term_reader.specs.Trees.{Tree, tree_text, IsOf}
+use Rattle.term_reader.specs.Phases.{After, OfPart}
 use Rattle.term_reader.specs.Values.{is_node}
-use Rattle.term_reader.specs.declared.part.Side.{Side}
 use Rattle.term_reader.specs.declared.part.Side.TheVariants.{Formula}
 use Rattle.logic_text.specs.Answers.{are_formulas}
 use Rattle.logic_text.specs.Goals.{sorts_text, taken_text, calls_text, hypotheses_text, conclusion_text}
-
--- some bytes, and then what another phase has
-abbrev pub After : List ℕ → (List ℕ → Type 0) → List ℕ → Type 0
-After w P x = (y : List ℕ) × P y × (x ≡ w ++ y)
-
--- a part, and then what another phase has
-abbrev pub OfPart : Side → (List ℕ → Type 0) → List ℕ → Type 0
-OfPart s P x = (t : Tree) × (y : List ℕ) × IsOf s t × P y × (x ≡ tree_text t ++ y)
 
 abbrev pub AtEnd : List ℕ → Type 0
 AtEnd x = x ≡ 256 ∷ []
@@ -53,22 +41,3 @@ Has nothing = AtEnd
 -- a word, a formula and a line end, and then the rest
 abbrev pub Line : List ℕ → Rest → List ℕ → Type 0
 Line w n = After w (OfPart Formula (After (codes "\n") (Has n)))
-
--- a fault of what a phase may have: no such text goes on past the first byte of `r`
-pub record IsBad (P : List ℕ → Type 0) (s r : List ℕ) : Type 0 where
-  pub front : List ℕ
-  pub is_front : s ≡ front ++ r
-  pub goes : (rest : List ℕ) × P (front ++ rest)
-  pub stuck : (rest : List ℕ) → P (front ++ (first r ∷ rest)) → ⊥
-
--- between `s` and `r` a text of P has been read up to where P goes on as Q
-pub record IsUpTo (P : List ℕ → Type 0) (s : List ℕ) (Q : List ℕ → Type 0) (r : List ℕ) : Type 0 where
-  pub front : List ℕ
-  pub is_front : s ≡ front ++ r
-  pub into : (x : List ℕ) → Q x → P (front ++ x)
-  pub out : (x : List ℕ) → (x ≡ [] → ⊥) → first x ≡ first r → P (front ++ x) → Q x
-
--- a fault at a place of a text; want of memory needs no cause
-abbrev pub IsBadAt : (List ℕ → Type 0) → List ℕ → ℕ → ReadFault → Type 0
-IsBadAt P bytes at (fault.BadText to) = (to ≤ length bytes) × IsBad P (drop at bytes) (drop to bytes)
-IsBadAt P bytes at fault.Starved = Unit {0}

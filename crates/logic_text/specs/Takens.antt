@@ -4,7 +4,8 @@ use Rattle.logic_terms.specs.Sorts.{sort, kinds_in}
 use Rattle.logic_terms.specs.declared.sort.Sort.{Sort}
 use Rattle.term_reader.specs.Sorts.{kind_text}
 use Rattle.logic_text.specs.Goals.{taken_text}
-use Rattle.logic_text.specs.Phases.{InCall, InCalls, IsUpTo}
+use Rattle.term_reader.specs.Phases.{IsUpTo}
+use Rattle.logic_text.specs.Phases.{InCall, InCalls}
 use Rattle.logic_text.specs.declared.signature_reader.Taken.{Taken}
 use Rattle.logic_text.specs.declared.signature_reader.Taken.TheVariants as taken
 

@@ -8,10 +8,10 @@ ghost use Rattle.logic_text.specs.Goals.{line_end};
 ghost use Rattle.logic_text.specs.Certs.{spaced_number, spaced_node, nodes_text, numbers_text, literals_text, scaled_text, step_text, steps_text, line_text, lines_text, cert_bytes};
 
 use crate::fits::cert_fits;
-use crate::parts::{push_spaced_formula, push_spaced_number, push_spaced_term, push_spaced_whole};
+use crate::parts::{push_spaced_number, push_spaced_whole};
 use ada_values::ByteList;
 use cert_lines::{Cert, CertLine, CertLines, HintList, StepLine, StepLines};
-use logic_terms::{Formula, FormulaList, Starved, Term};
+use logic_terms::{Formula, FormulaList, Starved, Term, push_spaced_formula, push_spaced_term};
 use sqlite_items::Items;
 use std::alloc::Global;
 
@@ -137,8 +137,8 @@ fn push_line(alloc: Global, text: &mut Vec<u8>, line: &CertLine) -> Result<(), S
             text.extend_from_slice(b"given")?;
             push_spaced_number(alloc, text, *k as u64)
         }
-        CertLine::Open { part, formula } => push_of(alloc, text, "open", *part, formula),
-        CertLine::Case { part, term } => push_about(alloc, text, "case", *part, term),
+        CertLine::Open { part, formula } => push_of(alloc, text, "open", *part, formula.get()),
+        CertLine::Case { part, term } => push_about(alloc, text, "case", *part, term.get()),
         CertLine::Rup { literals, hints } => {
             text.extend_from_slice(b"rup")?;
             push_literals(alloc, text, literals)?;
@@ -149,17 +149,17 @@ fn push_line(alloc: Global, text: &mut Vec<u8>, line: &CertLine) -> Result<(), S
             push_literals(alloc, text, literals)?;
             push_steps(alloc, text, steps)
         }
-        CertLine::Tri { left, right } => push_pair(alloc, text, "tri", left, right),
+        CertLine::Tri { left, right } => push_pair(alloc, text, "tri", left.get(), right.get()),
         CertLine::Ins { at, formula } => {
             text.extend_from_slice(b"ins")?;
-            push_spaced_term(alloc, text, at)?;
-            push_spaced_formula(alloc, text, formula)
+            push_spaced_term(alloc, text, at.get())?;
+            push_spaced_formula(alloc, text, formula.get())
         }
-        CertLine::New { symbol, formula } => push_of(alloc, text, "new", *symbol, formula),
-        CertLine::Arr { part, term } => push_about(alloc, text, "arr", *part, term),
-        CertLine::Ext { left, right } => push_pair(alloc, text, "ext", left, right),
-        CertLine::Fld { part, term } => push_about(alloc, text, "fld", *part, term),
-        CertLine::Mul { left, right } => push_pair(alloc, text, "mul", left, right),
+        CertLine::New { symbol, formula } => push_of(alloc, text, "new", *symbol, formula.get()),
+        CertLine::Arr { part, term } => push_about(alloc, text, "arr", *part, term.get()),
+        CertLine::Ext { left, right } => push_pair(alloc, text, "ext", left.get(), right.get()),
+        CertLine::Fld { part, term } => push_about(alloc, text, "fld", *part, term.get()),
+        CertLine::Mul { left, right } => push_pair(alloc, text, "mul", left.get(), right.get()),
         _ => push_other(alloc, text, line),
     }
 }
@@ -178,20 +178,20 @@ fn push_other(alloc: Global, text: &mut Vec<u8>, line: &CertLine) -> Result<(), 
             text.extend_from_slice(b"same")?;
             push_spaced_number(alloc, text, *direction as u64)?;
             push_spaced_number(alloc, text, *occurrence as u64)?;
-            push_spaced_formula(alloc, text, equation)?;
-            push_spaced_formula(alloc, text, literal)
+            push_spaced_formula(alloc, text, equation.get())?;
+            push_spaced_formula(alloc, text, literal.get())
         }
         CertLine::Div {
             part,
             dividend,
             divisor,
         } => {
-            push_about(alloc, text, "div", *part, dividend)?;
+            push_about(alloc, text, "div", *part, dividend.get())?;
             push_spaced_whole(alloc, text, *divisor)
         }
         CertLine::Calc(formula) => {
             text.extend_from_slice(b"calc")?;
-            push_spaced_formula(alloc, text, formula)
+            push_spaced_formula(alloc, text, formula.get())
         }
         _ => Err(Starved),
     }
@@ -202,8 +202,7 @@ fn push_ended(alloc: Global, text: &mut Vec<u8>, line: &CertLine) -> Result<(), 
     ensures { OnOk result (text.new.items ≡ text.old.items ++ (line_text (line_of line.now) ++ line_end)) }
 {
     push_line(alloc, text, line)?;
-    text.extend_from_slice(b"\n")?;
-    Ok(())
+    text.extend_from_slice(b"\n")
 }
 
 /// Adds lines with their ends.

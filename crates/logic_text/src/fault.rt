@@ -1,5 +1,7 @@
 //! Why a text is not read.
 
+use term_reader::ReadFault;
+
 /// Why a text is not read.
 #[derive(Clone, Copy, Debug, PartialEq, Eq)]
 pub enum TextFault {
@@ -9,4 +11,18 @@ pub enum TextFault {
     BadText(usize),
     /// There was no memory left, or more than `MOST_LEVELS` brackets are open.
     Starved,
+}
+
+impl From<ReadFault> for TextFault {
+    ghost use Rattle.std.specs.Prelude.{◌≡◌};
+    ghost use Rattle.logic_text.specs.Faults.{text_fault};
+
+    ghost from_gives = { λ f e. e ≡ text_fault f };
+
+    fn from(fault: ReadFault) -> TextFault {
+        match fault {
+            ReadFault::BadText(at) => TextFault::BadText(at),
+            ReadFault::Starved => TextFault::Starved,
+        }
+    }
 }

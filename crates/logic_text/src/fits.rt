@@ -4,9 +4,9 @@ ghost use Rattle.std.specs.Prelude.{◌≡◌, true, map};
 ghost use Rattle.logic_terms.specs.View.{term, formula, terms};
 ghost use Rattle.logic_terms.specs.Goal.{problem};
 ghost use Rattle.cert_lines.specs.View.{step as step_of, line as line_of, lines as lines_of};
-ghost use Rattle.term_reader.specs.Values.{are_terms};
+ghost use Rattle.term_reader.specs.Values.{are_terms, IsIndex, IsCount, IsNumber, IsTerm, IsFormula};
 ghost use Rattle.logic_text.specs.Answers.{IsGoal};
-ghost use Rattle.logic_text.specs.Fits.{IsIndex, IsCount, IsNumber, IsTerm, IsFormula, Every, AreLiterals, IsStep, IsLine, AreLines};
+ghost use Rattle.logic_text.specs.Fits.{Every, AreLiterals, IsStep, IsLine, AreLines};
 
 use cert_lines::{Cert, CertLine, CertLines, HintList, StepLine, StepLines};
 use logic_terms::{Formula, FormulaList, Goal, Term, TermList};
@@ -205,10 +205,10 @@ fn line_fits(line: &CertLine)
 {
     match line {
         CertLine::Given(k) => index_fits(*k),
-        CertLine::Open { part, formula } => of_fits(*part, formula),
+        CertLine::Open { part, formula } => of_fits(*part, formula.get()),
         CertLine::Case { part, term }
         | CertLine::Arr { part, term }
-        | CertLine::Fld { part, term } => about_fits(*part, term),
+        | CertLine::Fld { part, term } => about_fits(*part, term.get()),
         CertLine::Rup { literals, hints } => {
             literals_fit(literals);
             hints_fit(hints);
@@ -219,30 +219,30 @@ fn line_fits(line: &CertLine)
         }
         CertLine::Tri { left, right }
         | CertLine::Ext { left, right }
-        | CertLine::Mul { left, right } => pair_fits(left, right),
+        | CertLine::Mul { left, right } => pair_fits(left.get(), right.get()),
         CertLine::Ins { at, formula } => {
-            term_fits(at);
-            formula_fits(formula);
+            term_fits(at.get());
+            formula_fits(formula.get());
         }
-        CertLine::New { symbol, formula } => of_fits(*symbol, formula),
+        CertLine::New { symbol, formula } => of_fits(*symbol, formula.get()),
         CertLine::Same {
             direction,
             occurrence,
             equation,
             literal,
         } => {
-            of_fits(*direction, equation);
-            of_fits(*occurrence, literal);
+            of_fits(*direction, equation.get());
+            of_fits(*occurrence, literal.get());
         }
         CertLine::Div {
             part,
             dividend,
             divisor,
         } => {
-            about_fits(*part, dividend);
+            about_fits(*part, dividend.get());
             number_fits(*divisor);
         }
-        CertLine::Calc(formula) => formula_fits(formula),
+        CertLine::Calc(formula) => formula_fits(formula.get()),
     }
 }
 

@@ -7,15 +7,15 @@ ghost use Rattle.term_reader.specs.Bytes.{first};
 ghost use Rattle.logic_terms.specs.Text.{node_text};
 ghost use Rattle.logic_text.specs.Answers.{IsPlain, IsGoalFault, most_goal_bytes};
 ghost use Rattle.logic_text.specs.Goals.{line_end, hypotheses_text, conclusion_text, goal_bytes};
-ghost use Rattle.logic_text.specs.Phases.{AtStart, InLines, Rest, Line, Has, IsUpTo, IsBadAt};
+ghost use Rattle.term_reader.specs.Phases.{IsUpTo, IsBadAt};
+ghost use Rattle.logic_text.specs.Phases.{AtStart, InLines, Rest, Line, Has};
 
 use crate::fault::TextFault;
-use crate::marks::{FormulaRead, read_formula};
 use crate::signature_reader::{read_calls_line, read_sorts_line};
 use logic_terms::{Formula, FormulaList, Goal};
-use sqlite_items::Items;
+use sqlite_items::{Boxed, Items};
 use std::alloc::Global;
-use term_reader::{ReadFault, byte_at, read_word};
+use term_reader::{FormulaRead, ReadFault, byte_at, read_formula, read_word};
 
 /// Longer texts are not read as goals.
 pub const MOST_GOAL_BYTES: usize = 4_194_304;
@@ -63,7 +63,7 @@ fn read_hypothesis(
 {
     match read_line(alloc, bytes, at, b"hyp ") {
         Err(fault) => Err(fault),
-        Ok(read) => match hypotheses.push(read.formula) {
+        Ok(read) => match hypotheses.push(read.formula.into_inner()) {
             Err(_) => Err(ReadFault::Starved),
             Ok(()) => Ok(read.to),
         },
@@ -78,7 +78,7 @@ struct Hypotheses {
 }
 
 /// Reads the lines of the hypotheses.
-#[tactic(auto, using(crate::proofs::Reaching::upto_start, crate::proofs::Places::bad_at, crate::proofs::Places::steps_at))]
+#[tactic(auto, using(term_reader::proofs::Reaching::upto_start, term_reader::proofs::Places::bad_at, term_reader::proofs::Places::steps_at))]
 fn read_hypotheses(alloc: Global, bytes: &[u8], at: usize) -> Result<Hypotheses, ReadFault>
     requires { at ≤ length bytes.now }
     ensures inside { IfOk result (λ r. r.to ≤ length bytes.now) }
@@ -100,7 +100,7 @@ fn read_hypotheses(alloc: Global, bytes: &[u8], at: usize) -> Result<Hypotheses,
 
 /// Reads the line of the conclusion, which is the last.
 #[tactic(auto, using(crate::proofs::Formulas::last_text))]
-fn read_conclusion(alloc: Global, bytes: &[u8], at: usize) -> Result<Formula, ReadFault>
+fn read_conclusion(alloc: Global, bytes: &[u8], at: usize) -> Result<Boxed<Formula>, ReadFault>
     requires place { at ≤ length bytes.now }
     requires letter { first (drop at bytes.now) ≢ 104 }
     ensures text { IfOk result (λ p. drop at bytes.now ≡ conclusion_text (formula p)) }
@@ -122,7 +122,7 @@ fn read_conclusion(alloc: Global, bytes: &[u8], at: usize) -> Result<Formula, Re
 #[derive(Drop)]
 struct Formulas {
     hypotheses: FormulaList,
-    conclusion: Formula,
+    conclusion: Boxed<Formula>,
 }
 
 /// Reads the lines of the hypotheses and of the conclusion.
@@ -159,7 +159,7 @@ fn read_whole(alloc: Global, bytes: &[u8]) -> Result<Goal, ReadFault>
                     symbols: sorts.symbols,
                     calls: calls.calls,
                     hypotheses: read.hypotheses,
-                    conclusion: read.conclusion,
+                    conclusion: read.conclusion.into_inner(),
                 }),
             },
         },
@@ -179,8 +179,7 @@ pub fn read_goal(alloc: Global, bytes: &[u8]) -> Result<Goal, TextFault>
         return Err(TextFault::TooLong);
     }
     match read_whole(alloc, bytes) {
-        Err(ReadFault::BadText(at)) => Err(TextFault::BadText(at)),
-        Err(ReadFault::Starved) => Err(TextFault::Starved),
+        Err(fault) => Err(TextFault::from(fault)),
         Ok(goal) => Ok(goal),
     }
 }

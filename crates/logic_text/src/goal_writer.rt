@@ -10,17 +10,16 @@ ghost use Rattle.logic_text.specs.Answers.{IsBadGoal};
 ghost use Rattle.logic_text.specs.Goals.{line_end, sorts_text, taken_text, call_text, calls_text, hypotheses_text, goal_bytes};
 
 use crate::fits::goal_fits;
-use crate::formula_text::push_formula;
 use ada_values::ByteList;
 use logic_terms::{
-    Call, CallList, Formula, FormulaList, Goal, Sort, SortList, Starved, SymbolList,
+    Call, CallList, Formula, FormulaList, Goal, Sort, SortList, Starved, SymbolList, push_formula,
 };
 use sqlite_items::Items;
-use std::alloc::{AllocError, Global};
+use std::alloc::Global;
 use term_reader::push_sort;
 
 /// Adds a space and a sort.
-fn push_spaced_sort(text: &mut Vec<u8>, sort: &Sort) -> Result<(), AllocError>
+fn push_spaced_sort(text: &mut Vec<u8>, sort: &Sort) -> Result<(), Starved>
     ensures { OnOk result (text.new.items ≡ text.old.items ++ (codes " " ++ kind_text (kind_of sort.now))) }
 {
     text.extend_from_slice(b" ")?;
@@ -28,7 +27,7 @@ fn push_spaced_sort(text: &mut Vec<u8>, sort: &Sort) -> Result<(), AllocError>
 }
 
 /// Adds the sorts of symbols, each with a space before it.
-fn push_symbols(text: &mut Vec<u8>, symbols: &SymbolList) -> Result<(), AllocError>
+fn push_symbols(text: &mut Vec<u8>, symbols: &SymbolList) -> Result<(), Starved>
     ensures { OnOk result (text.new.items ≡ text.old.items ++ sorts_text (map (λ s. kind_of s.sort) symbols.now)) }
 {
     for symbol in symbols.as_slice() {
@@ -38,7 +37,7 @@ fn push_symbols(text: &mut Vec<u8>, symbols: &SymbolList) -> Result<(), AllocErr
 }
 
 /// Adds a sort and a space.
-fn push_sort_spaced(text: &mut Vec<u8>, sort: &Sort) -> Result<(), AllocError>
+fn push_sort_spaced(text: &mut Vec<u8>, sort: &Sort) -> Result<(), Starved>
     ensures { OnOk result (text.new.items ≡ text.old.items ++ (kind_text (kind_of sort.now) ++ codes " ")) }
 {
     push_sort(text, sort)?;
@@ -46,7 +45,7 @@ fn push_sort_spaced(text: &mut Vec<u8>, sort: &Sort) -> Result<(), AllocError>
 }
 
 /// Adds sorts, each with a space after it.
-fn push_taken(text: &mut Vec<u8>, sorts: &SortList) -> Result<(), AllocError>
+fn push_taken(text: &mut Vec<u8>, sorts: &SortList) -> Result<(), Starved>
     ensures { OnOk result (text.new.items ≡ text.old.items ++ taken_text (kinds_in (map kind_of sorts.now))) }
 {
     for sort in sorts.as_slice() {
@@ -56,7 +55,7 @@ fn push_taken(text: &mut Vec<u8>, sorts: &SortList) -> Result<(), AllocError>
 }
 
 /// Adds a space and the sorts of a call in brackets.
-fn push_call(text: &mut Vec<u8>, call: &Call) -> Result<(), AllocError>
+fn push_call(text: &mut Vec<u8>, call: &Call) -> Result<(), Starved>
     ensures { OnOk result (text.new.items ≡ text.old.items ++ (codes " " ++ call_text (called_as call.now))) }
 {
     text.extend_from_slice(b" (")?;
@@ -66,7 +65,7 @@ fn push_call(text: &mut Vec<u8>, call: &Call) -> Result<(), AllocError>
 }
 
 /// Adds calls, each with a space before it.
-fn push_calls(text: &mut Vec<u8>, calls: &CallList) -> Result<(), AllocError>
+fn push_calls(text: &mut Vec<u8>, calls: &CallList) -> Result<(), Starved>
     ensures { OnOk result (text.new.items ≡ text.old.items ++ calls_text (map called_as calls.now)) }
 {
     for call in calls.as_slice() {
@@ -81,8 +80,7 @@ fn push_line(alloc: Global, text: &mut Vec<u8>, word: &str, p: &Formula) -> Resu
 {
     text.extend_from_slice(word.as_bytes())?;
     push_formula(alloc, text, p)?;
-    text.extend_from_slice(b"\n")?;
-    Ok(())
+    text.extend_from_slice(b"\n")
 }
 
 /// Adds a line for each hypothesis.

@@ -4,11 +4,9 @@
 mod cert_writer;
 mod fault;
 mod fits;
-mod formula_text;
 mod goal_reader;
 mod goal_writer;
 mod laws;
-mod marks;
 mod parts;
 mod signature_reader;
 

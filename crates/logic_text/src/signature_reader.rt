@@ -6,14 +6,14 @@ ghost use Rattle.logic_terms.specs.declared.goal.Role.{Role};
 ghost use Rattle.term_reader.specs.Bytes.{first};
 ghost use Rattle.logic_text.specs.Answers.{kinds_of};
 ghost use Rattle.logic_text.specs.Goals.{sorts_text, call_text, calls_text};
-ghost use Rattle.logic_text.specs.Phases.{After, AtStart, InSorts, InCalls, InCall, InLines, IsUpTo, IsBadAt};
+ghost use Rattle.term_reader.specs.Phases.{After, IsUpTo, IsBadAt};
+ghost use Rattle.logic_text.specs.Phases.{AtStart, InSorts, InCalls, InCall, InLines};
 ghost use Rattle.logic_text.specs.Takens.{IsTaken};
 
-use crate::marks::read_sort;
 use logic_terms::{Call, CallList, Role, Sort, SortList, Symbol, SymbolList};
-use sqlite_items::Items;
+use sqlite_items::{Boxed, Items};
 use std::alloc::Global;
-use term_reader::{ReadFault, byte_at, read_word};
+use term_reader::{ReadFault, byte_at, read_sort, read_word};
 
 /// Reads a space and the sort of a symbol.
 fn read_symbol(
@@ -37,7 +37,7 @@ fn read_symbol(
         Err(fault) => Err(fault),
         Ok(read) => {
             let symbol = Symbol {
-                sort: read.sort,
+                sort: read.sort.into_inner(),
                 role: Role::Plain,
             };
             match symbols.push(symbol) {
@@ -56,7 +56,7 @@ pub struct Symbols {
 }
 
 /// Reads the sorts of symbols.
-#[tactic(auto, using(crate::proofs::Reaching::upto_start, crate::proofs::Places::bad_at, crate::proofs::Places::steps_at))]
+#[tactic(auto, using(term_reader::proofs::Reaching::upto_start, term_reader::proofs::Places::bad_at, term_reader::proofs::Places::steps_at))]
 fn read_symbols(alloc: Global, bytes: &[u8], at: usize) -> Result<Symbols, ReadFault>
     requires { at ≤ length bytes.now }
     ensures inside { IfOk result (λ r. r.to ≤ length bytes.now) }
@@ -83,7 +83,7 @@ enum Taken {
     /// The sort of an argument.
     Argument(usize),
     /// The sort of the answer.
-    Answer(Sort, usize),
+    Answer(Boxed<Sort>, usize),
 }
 
 /// Reads a sort in the brackets of a call, and the space or bracket after it.
@@ -102,7 +102,7 @@ fn read_taken(
         Ok(read) => {
             let byte = byte_at(bytes, read.to);
             if byte == 32 {
-                match arguments.push(read.sort) {
+                match arguments.push(read.sort.into_inner()) {
                     Err(_) => Err(ReadFault::Starved),
                     Ok(()) => Ok(Taken::Argument(read.to + 1)),
                 }
@@ -123,7 +123,7 @@ struct CallRead {
 }
 
 /// Reads the sorts of a call after its bracket.
-#[tactic(auto, using(crate::proofs::Reaching::upto_start, crate::proofs::Places::bad_at, crate::proofs::Places::steps_at, crate::proofs::Signatures::called_text))]
+#[tactic(auto, using(term_reader::proofs::Reaching::upto_start, term_reader::proofs::Places::bad_at, term_reader::proofs::Places::steps_at, crate::proofs::Signatures::called_text))]
 fn read_call(alloc: Global, bytes: &[u8], at: usize) -> Result<CallRead, ReadFault>
     requires { at ≤ length bytes.now }
     ensures before { IfOk result (λ r. at < r.to) }
@@ -142,7 +142,7 @@ fn read_call(alloc: Global, bytes: &[u8], at: usize) -> Result<CallRead, ReadFau
             Ok(Taken::Answer(answer, end)) => {
                 let call = Call {
                     arguments,
-                    answer,
+                    answer: answer.into_inner(),
                     sub: None,
                 };
                 return Ok(CallRead { call, to: end });
@@ -189,7 +189,7 @@ pub struct Calls {
 }
 
 /// Reads calls.
-#[tactic(auto, using(crate::proofs::Reaching::upto_start, crate::proofs::Places::bad_at, crate::proofs::Places::steps_at))]
+#[tactic(auto, using(term_reader::proofs::Reaching::upto_start, term_reader::proofs::Places::bad_at, term_reader::proofs::Places::steps_at))]
 fn read_calls(alloc: Global, bytes: &[u8], at: usize) -> Result<Calls, ReadFault>
     requires { at ≤ length bytes.now }
     ensures inside { IfOk result (λ r. r.to ≤ length bytes.now) }

@@ -1,5 +1,5 @@
 -- The byte at a place of a text.
-use Rattle.std.proofs.Common.{◌≡◌, sym, ◌∙◌, ap, ℕ, ◌+◌, ◌-◌, ◌<◌, ◌≤◌, true, false, List, ◌∷◌, length, get_or, drop, arith, inl, inr}
+use Rattle.std.proofs.Common.{◌≡◌, refl, sym, ◌∙◌, ap, ℕ, ◌+◌, ◌-◌, ◌<◌, ◌≤◌, true, false, List, [], ◌∷◌, ◌++◌, length, get_or, drop, arith, inl, inr}
 use Rattle.std.proofs.lemmas.List.{drop_more, drop_all}
 use Rattle.std.proofs.lemmas.Bool.{false_from_ne_true, and_parts, and_from, leb-true, le-leb, cases_lt}
 use Rattle.term_reader.specs.Bytes.{is_digit, first}
@@ -27,3 +27,7 @@ first_is xs i c e h = elim (cases_lt i (length xs)) [
 
 pub digit_front : (d : ℕ) (xs r : List ℕ) → d < 10 → xs ≡ (48 + d) ∷ r → is_digit (first xs) ≡ true
 digit_front d xs r h e = ap (λ (x : List ℕ). is_digit (first x)) e ∙ and_from _ _ (le-leb 48 (48 + d) (omega arith)) (le-leb (48 + d) 57 (omega arith))
+
+pub front_first : (u q rest : List ℕ) → first (u ++ (first q ∷ rest)) ≡ first (u ++ q)
+front_first [] q rest = refl
+front_first (c ∷ u) q rest = refl

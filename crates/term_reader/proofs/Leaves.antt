@@ -1,17 +1,18 @@
 -- Parts without brackets, and where none goes on.
 use Rattle.std.proofs.Common.{◌≡◌, refl, sym, ◌∙◌, ap, subst, ℕ, suc, ◌+◌, ◌-◌, ◌<◌, ◌≤◌, Bool, true, false, List, [], ◌∷◌, ◌++◌, length, drop, arith}
-use Rattle.std.specs.Prelude.{◌==◌, ◌^◌, nat_lt, pos, negsuc}
+use Rattle.std.specs.Prelude.{◌==◌, ◌^◌, nat_lt, ℤ, pos, negsuc}
 use Rattle.std.proofs.lemmas.Bool.{false≢true, true≢false, eqb-false, ltb-true, lt-ltb}
 use Rattle.logic_terms.specs.Node.{Node, num, flag, sym as symbol, bound}
 use Rattle.logic_terms.specs.Value.{Kind, numbers, truths}
-use Rattle.logic_terms.specs.Text.{number_text}
+use Rattle.logic_terms.specs.Text.{number_text, whole_text}
 use Rattle.term_reader.specs.declared.part.Side.{Side}
 use Rattle.term_reader.specs.declared.part.Side.TheVariants.{Term, Formula, Sort}
 use Rattle.term_reader.specs.Bytes.{is_digit, first, Ends, IsFault}
 use Rattle.term_reader.specs.Reads.{Between, IsRead, IsUnread}
 use Rattle.term_reader.specs.Trees.{Tree, of_node, of_kind, tree_text, IsOf}
-use Rattle.term_reader.specs.Values.{same_side}
+use Rattle.term_reader.specs.Values.{same_side, IsNumber}
 use Rattle.term_reader.proofs.Digits.{digit_first}
+use Rattle.term_reader.proofs.Fronts.{front_first}
 use Rattle.term_reader.proofs.Skipping.{ended_whole, solid_whole, kind_whole}
 use Rattle.term_reader.proofs.Builds.{Branch, a_number, a_negative, a_symbol, a_bound, a_flag, of_numbers, of_truths, a_branch, view, sample, sample_of}
 
@@ -32,10 +33,6 @@ not_flag false c k f g e = eqb-false 70 c g e
 
 not_branch : (s : Side) (t : Tree) (c : ℕ) (k : List ℕ) → (40 == c) ≡ false → Branch s t → begins t k c → ⊥
 not_branch s t c k f b e = eqb-false 40 c f (sym (ap first (b.is_text k)) ∙ e)
-
-front_first : (u q rest : List ℕ) → first (u ++ (first q ∷ rest)) ≡ first (u ++ q)
-front_first [] q rest = refl
-front_first (x ∷ u) q rest = refl
 
 -- ---- a letter and a number
 
@@ -104,58 +101,30 @@ bounds = record {
   only = only_bound;
 }
 
-only_negative : (t : Tree) (k : List ℕ) → IsOf Term t → begins t k 45 → (n : ℕ) × Between 1 (2 ^ 127) n × (tree_text t ≡ 45 ∷ number_text n)
-only_negative t k h b = elim (view Term t h) [
-  | a_number n e i g ↦ absurd (not_number n 45 k refl (begins_as _ _ k 45 g b))
-  | a_negative n e i g ↦ let l : n < 2 ^ 127 = ltb-true n (2 ^ 127) i in (suc n, (omega arith, omega arith), ap tree_text g)
-  | a_symbol n e i g ↦ absurd (eqb-false 115 45 refl (begins_as _ _ k 45 g b))
-  | a_bound n e i g ↦ absurd (eqb-false 98 45 refl (begins_as _ _ k 45 g b))
-  | a_flag f e g ↦ absurd (not_flag f 45 k refl refl (begins_as _ _ k 45 g b))
-  | of_numbers e g ↦ absurd (eqb-false 78 45 refl (begins_as _ _ k 45 g b))
-  | of_truths e g ↦ absurd (eqb-false 66 45 refl (begins_as _ _ k 45 g b))
-  | a_branch f ↦ absurd (not_branch Term t 45 k refl f b)
+-- ---- a whole number
+
+-- a term that begins with no letter and no bracket
+only_whole : (t : Tree) (k : List ℕ) (c : ℕ) → (c ≡ 40 → ⊥) → (c ≡ 115 → ⊥) → (c ≡ 98 → ⊥) → IsOf Term t → begins t k c → (z : ℤ) × IsNumber z × (tree_text t ≡ whole_text z)
+only_whole t k c f g h p b = elim (view Term t p) [
+  | a_number n e w x ↦ (pos n, w, ap tree_text x)
+  | a_negative n e w x ↦ (negsuc n, w, ap tree_text x)
+  | a_symbol n e w x ↦ absurd (g (sym (begins_as _ _ k c x b)))
+  | a_bound n e w x ↦ absurd (h (sym (begins_as _ _ k c x b)))
+  | a_flag v e x ↦ absurd (false≢true (ap (same_side Term) (sym e)))
+  | of_numbers e x ↦ absurd (false≢true (ap (same_side Term) (sym e)))
+  | of_truths e x ↦ absurd (false≢true (ap (same_side Term) (sym e)))
+  | a_branch v ↦ absurd (f (sym (sym (ap first (v.is_text k)) ∙ b)))
 ]
 
-successor : (n : ℕ) → 1 ≤ n → suc (n - 1) ≡ n
-successor n h = omega arith
-
-negatives : Lettered Term 45 (Between 1 (2 ^ 127)) (λ n. of_node (num (negsuc (n - 1))))
-negatives = record {
-  right = λ n h. let a = h.0 in let b = h.1 in lt-ltb (n - 1) (2 ^ 127) (omega arith);
-  text = λ n h. ap (λ (m : ℕ). 45 ∷ number_text m) (successor n h.0);
-  only = only_negative;
-}
-
--- ---- a number
-
-digit_as : (t u : Tree) (k : List ℕ) → t ≡ u → is_digit (first (tree_text t ++ k)) ≡ true → is_digit (first (tree_text u ++ k)) ≡ true
-digit_as t u k e h = ap (λ (x : Tree). is_digit (first (tree_text x ++ k))) (sym e) ∙ h
-
-flag_digit : (b : Bool) (k : List ℕ) → is_digit (first (tree_text (of_node (flag b)) ++ k)) ≡ true → ⊥
-flag_digit true k h = false≢true h
-flag_digit false k h = false≢true h
-
-only_number : (t : Tree) (k : List ℕ) → IsOf Term t → is_digit (first (tree_text t ++ k)) ≡ true → (n : ℕ) × Between 0 170141183460469231731687303715884105727 n × (tree_text t ≡ number_text n)
-only_number t k h b = elim (view Term t h) [
-  | a_number n e i g ↦ let l : n < 2 ^ 127 = ltb-true n (2 ^ 127) i in (n, (omega arith, omega arith), ap tree_text g)
-  | a_negative n e i g ↦ absurd (false≢true (digit_as t (of_node (num (negsuc n))) k g b))
-  | a_symbol n e i g ↦ absurd (false≢true (digit_as t (of_node (symbol n)) k g b))
-  | a_bound n e i g ↦ absurd (false≢true (digit_as t (of_node (bound n)) k g b))
-  | a_flag f e g ↦ absurd (flag_digit f k (digit_as t (of_node (flag f)) k g b))
-  | of_numbers e g ↦ absurd (false≢true (digit_as t (of_kind numbers) k g b))
-  | of_truths e g ↦ absurd (false≢true (digit_as t (of_kind truths) k g b))
-  | a_branch f ↦ absurd (false≢true (sym (ap (λ (x : List ℕ). is_digit (first x)) (f.is_text k)) ∙ b))
-]
-
-number_fault : (t q : List ℕ) → is_digit (first t) ≡ true → IsFault (Between 0 170141183460469231731687303715884105727) number_text t q → IsFault (IsOf Term) tree_text t q
-number_fault t q h f =
-    let g = f.goes in record {
-      front = f.front;
-      is_front = f.is_front;
-      goes = (of_node (num (pos g.0)), g.1, let b = g.2.1 in lt-ltb g.0 (2 ^ 127) (omega arith), g.3);
+whole_fault : (s q : List ℕ) → (first s ≡ 40 → ⊥) → (first s ≡ 115 → ⊥) → (first s ≡ 98 → ⊥) → IsFault IsNumber whole_text s q → IsFault (IsOf Term) tree_text s q
+whole_fault s q f g h w =
+    let v = w.goes in record {
+      front = w.front;
+      is_front = w.is_front;
+      goes = (of_node (num v.0), v.1, v.2, v.3);
       stuck = λ u k rest p d x.
-          let o = only_number u k p (ap (λ (z : List ℕ). is_digit (first z)) x ∙ ap is_digit (front_first f.front q rest) ∙ ap (λ (z : List ℕ). is_digit (first z)) (sym f.is_front) ∙ h) in
-          f.stuck o.0 k rest o.1 d (ap (λ (z : List ℕ). z ++ k) (sym o.2) ∙ x);
+          let o = only_whole u k (first s) f g h p (ap first x ∙ front_first w.front q rest ∙ sym (ap first w.is_front)) in
+          w.stuck o.0 k rest o.1 d (ap (λ (z : List ℕ). z ++ k) (sym o.2) ∙ x);
     }
 
 -- ---- what is read
@@ -164,11 +133,8 @@ pub read_as : (s : Side) (t u : Tree) (bytes : List ℕ) (at m n : ℕ) → t �
 read_as s t u bytes at m n e f h =
     subst (λ (x : Tree). IsRead s x bytes at m) (sym e) (subst (λ (i : ℕ). IsRead s u bytes at i) (sym f) h)
 
-of_same : (x y : Node) (bytes : List ℕ) (at to : ℕ) → x ≡ y → IsRead Term (of_node y) bytes at to → IsRead Term (of_node x) bytes at to
-of_same x y bytes at to e h = subst (λ (z : Node). IsRead Term (of_node z) bytes at to) (sym e) h
-
-pub symbol_read : (bytes : List ℕ) (at n to : ℕ) (x : Node) → x ≡ symbol n → drop at bytes ≡ 115 ∷ drop (at + 1) bytes → at + 1 < to → to ≤ length bytes → Between 0 4294967295 n → drop (at + 1) bytes ≡ number_text n ++ drop to bytes → Ends (drop to bytes) → IsRead Term (of_node x) bytes at to
-symbol_read bytes at n to x v e b i h f d = of_same x (symbol n) bytes at to v record {
+pub symbol_read : (bytes : List ℕ) (at n to : ℕ) → drop at bytes ≡ 115 ∷ drop (at + 1) bytes → at + 1 < to → to ≤ length bytes → Between 0 4294967295 n → drop (at + 1) bytes ≡ number_text n ++ drop to bytes → Ends (drop to bytes) → IsRead Term (of_node (symbol n)) bytes at to
+symbol_read bytes at n to e b i h f d = record {
   before = omega arith;
   inside = i;
   right = below_32 n h.1;
@@ -182,8 +148,8 @@ symbol_unread bytes at to e i f = record {
   fault = lettered_unread Term 115 (Between 0 4294967295) (λ n. of_node (symbol n)) (drop at bytes) (drop (at + 1) bytes) (drop to bytes) symbols e f;
 }
 
-pub bound_read : (bytes : List ℕ) (at n to : ℕ) (x : Node) → x ≡ bound n → drop at bytes ≡ 98 ∷ drop (at + 1) bytes → at + 1 < to → to ≤ length bytes → Between 0 4294967295 n → drop (at + 1) bytes ≡ number_text n ++ drop to bytes → Ends (drop to bytes) → IsRead Term (of_node x) bytes at to
-bound_read bytes at n to x v e b i h f d = of_same x (bound n) bytes at to v record {
+pub bound_read : (bytes : List ℕ) (at n to : ℕ) → drop at bytes ≡ 98 ∷ drop (at + 1) bytes → at + 1 < to → to ≤ length bytes → Between 0 4294967295 n → drop (at + 1) bytes ≡ number_text n ++ drop to bytes → Ends (drop to bytes) → IsRead Term (of_node (bound n)) bytes at to
+bound_read bytes at n to e b i h f d = record {
   before = omega arith;
   inside = i;
   right = below_32 n h.1;
@@ -197,36 +163,23 @@ bound_unread bytes at to e i f = record {
   fault = lettered_unread Term 98 (Between 0 4294967295) (λ n. of_node (bound n)) (drop at bytes) (drop (at + 1) bytes) (drop to bytes) bounds e f;
 }
 
-pub negative_read : (bytes : List ℕ) (at n to : ℕ) (x : Node) → x ≡ num (negsuc (n - 1)) → drop at bytes ≡ 45 ∷ drop (at + 1) bytes → at + 1 < to → to ≤ length bytes → Between 1 (2 ^ 127) n → drop (at + 1) bytes ≡ number_text n ++ drop to bytes → Ends (drop to bytes) → IsRead Term (of_node x) bytes at to
-negative_read bytes at n to x v e b i h f d =
-    let a = h.0 in let c = h.1 in of_same x (num (negsuc (n - 1))) bytes at to v record {
-      before = omega arith;
-      inside = i;
-      right = lt-ltb (n - 1) (2 ^ 127) (omega arith);
-      text = e ∙ ap (λ (y : List ℕ). 45 ∷ y) f ∙ ap (λ (m : ℕ). 45 ∷ (number_text m ++ drop to bytes)) (sym (successor n h.0));
-      whole = ended_whole (of_node (num (negsuc (n - 1)))) (first (drop to bytes)) d;
-    }
-
-pub negative_unread : (bytes : List ℕ) (at to : ℕ) → drop at bytes ≡ 45 ∷ drop (at + 1) bytes → to ≤ length bytes → IsFault (Between 1 (2 ^ 127)) number_text (drop (at + 1) bytes) (drop to bytes) → IsUnread Term bytes at to
-negative_unread bytes at to e i f = record {
-  inside = i;
-  fault = lettered_unread Term 45 (Between 1 (2 ^ 127)) (λ n. of_node (num (negsuc (n - 1)))) (drop at bytes) (drop (at + 1) bytes) (drop to bytes) negatives e f;
-}
-
-pub number_read : (bytes : List ℕ) (at n to : ℕ) (x : Node) → x ≡ num (pos n) → at < to → to ≤ length bytes → Between 0 170141183460469231731687303715884105727 n → drop at bytes ≡ number_text n ++ drop to bytes → Ends (drop to bytes) → IsRead Term (of_node x) bytes at to
-number_read bytes at n to x v b i h f d = of_same x (num (pos n)) bytes at to v record {
+pub whole_read : (bytes : List ℕ) (at to : ℕ) (z : ℤ) → at < to → to ≤ length bytes → IsNumber z → drop at bytes ≡ whole_text z ++ drop to bytes → Ends (drop to bytes) → IsRead Term (of_node (num z)) bytes at to
+whole_read bytes at to z b i h f d = record {
   before = b;
   inside = i;
-  right = let c = h.1 in lt-ltb n (2 ^ 127) (omega arith);
+  right = h;
   text = f;
-  whole = ended_whole (of_node (num (pos n))) (first (drop to bytes)) d;
+  whole = ended_whole (of_node (num z)) (first (drop to bytes)) d;
 }
 
-pub number_unread : (bytes : List ℕ) (at to : ℕ) → is_digit (first (drop at bytes)) ≡ true → to ≤ length bytes → IsFault (Between 0 170141183460469231731687303715884105727) number_text (drop at bytes) (drop to bytes) → IsUnread Term bytes at to
-number_unread bytes at to e i f = record { inside = i; fault = number_fault (drop at bytes) (drop to bytes) e f }
+pub whole_unread : (bytes : List ℕ) (at to : ℕ) → (first (drop at bytes) ≡ 40 → ⊥) → (first (drop at bytes) ≡ 115 → ⊥) → (first (drop at bytes) ≡ 98 → ⊥) → to ≤ length bytes → IsFault IsNumber whole_text (drop at bytes) (drop to bytes) → IsUnread Term bytes at to
+whole_unread bytes at to f g h i w = record {
+  inside = i;
+  fault = whole_fault (drop at bytes) (drop to bytes) f g h w;
+}
 
-pub flag_read : (bytes : List ℕ) (b : Bool) (at : ℕ) (x : Node) → x ≡ flag b → at < length bytes → drop at bytes ≡ tree_text (of_node (flag b)) ++ drop (at + 1) bytes → IsRead Formula (of_node x) bytes at (at + 1)
-flag_read bytes b at x v i e = subst (λ (z : Node). IsRead Formula (of_node z) bytes at (at + 1)) (sym v) record {
+pub flag_read : (bytes : List ℕ) (b : Bool) (at : ℕ) → at < length bytes → drop at bytes ≡ tree_text (of_node (flag b)) ++ drop (at + 1) bytes → IsRead Formula (of_node (flag b)) bytes at (at + 1)
+flag_read bytes b at i e = record {
   before = omega arith;
   inside = omega arith;
   right = refl;
@@ -234,13 +187,22 @@ flag_read bytes b at x v i e = subst (λ (z : Node). IsRead Formula (of_node z) 
   whole = solid_whole (flag b) (first (drop (at + 1) bytes)) refl;
 }
 
-pub kind_read : (bytes : List ℕ) (k : Kind) (at : ℕ) (x : Kind) → x ≡ k → at < length bytes → drop at bytes ≡ tree_text (of_kind k) ++ drop (at + 1) bytes → IsRead Sort (of_kind x) bytes at (at + 1)
-kind_read bytes k at x v i e = subst (λ (z : Kind). IsRead Sort (of_kind z) bytes at (at + 1)) (sym v) record {
+pub numbers_read : (bytes : List ℕ) (at : ℕ) → at < length bytes → drop at bytes ≡ 78 ∷ drop (at + 1) bytes → IsRead Sort (of_kind numbers) bytes at (at + 1)
+numbers_read bytes at i e = record {
   before = omega arith;
   inside = omega arith;
   right = refl;
   text = e;
-  whole = kind_whole k (first (drop (at + 1) bytes));
+  whole = kind_whole numbers (first (drop (at + 1) bytes));
+}
+
+pub truths_read : (bytes : List ℕ) (at : ℕ) → at < length bytes → drop at bytes ≡ 66 ∷ drop (at + 1) bytes → IsRead Sort (of_kind truths) bytes at (at + 1)
+truths_read bytes at i e = record {
+  before = omega arith;
+  inside = omega arith;
+  right = refl;
+  text = e;
+  whole = kind_whole truths (first (drop (at + 1) bytes));
 }
 
 -- ---- what is not
@@ -255,21 +217,6 @@ nothing_begins s bytes at i n = record {
     stuck = λ t k rest h d x. n t k h (ap first x);
   };
 }
-
-no_term_at : (t : Tree) (k : List ℕ) (c : ℕ) → (c ≡ 40 → ⊥) → (c ≡ 115 → ⊥) → (c ≡ 98 → ⊥) → (c ≡ 45 → ⊥) → is_digit c ≡ false → IsOf Term t → begins t k c → ⊥
-no_term_at t k c f g h i d p b = elim (view Term t p) [
-  | a_number n e w x ↦ not_number n c k d (begins_as _ _ k c x b)
-  | a_negative n e w x ↦ i (sym (begins_as _ _ k c x b))
-  | a_symbol n e w x ↦ g (sym (begins_as _ _ k c x b))
-  | a_bound n e w x ↦ h (sym (begins_as _ _ k c x b))
-  | a_flag v e x ↦ false≢true (ap (same_side Term) (sym e))
-  | of_numbers e x ↦ false≢true (ap (same_side Term) (sym e))
-  | of_truths e x ↦ false≢true (ap (same_side Term) (sym e))
-  | a_branch v ↦ f (sym (sym (ap first (v.is_text k)) ∙ b))
-]
-
-pub no_term : (bytes : List ℕ) (at : ℕ) → at ≤ length bytes → (first (drop at bytes) ≡ 40 → ⊥) → (first (drop at bytes) ≡ 115 → ⊥) → (first (drop at bytes) ≡ 98 → ⊥) → (first (drop at bytes) ≡ 45 → ⊥) → is_digit (first (drop at bytes)) ≡ false → IsUnread Term bytes at at
-no_term bytes at i a b c d h = nothing_begins Term bytes at i (λ t k p x. no_term_at t k (first (drop at bytes)) a b c d h p x)
 
 flag_begins : (v : Bool) (k : List ℕ) (c : ℕ) → (c ≡ 84 → ⊥) → (c ≡ 70 → ⊥) → begins (of_node (flag v)) k c → ⊥
 flag_begins true k c f g b = f (sym b)

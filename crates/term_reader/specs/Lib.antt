@@ -2,8 +2,11 @@ pub mod Sorts
 pub mod Values
 pub mod Bytes
 pub mod Trees
+pub mod Atoms
 pub mod Operators
 pub mod Words
 pub mod Reads
 pub mod Frames
 pub mod Steps
+pub mod Phases
+pub mod Texts

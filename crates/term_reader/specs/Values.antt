@@ -1,6 +1,6 @@
 -- Which nodes are terms and which are formulas, with numbers that fit: whole numbers in 128 bits, the numbers of
 -- symbols, variables, fields and calls in 32.
-use Rattle.std.specs.Prelude.{ℕ, ◌^◌, nat_lt, Bool, true, false, ◌&&◌, ℤ, pos, negsuc}
+use Rattle.std.specs.Prelude.{◌≡◌, ◌<◌, ℕ, ◌^◌, nat_lt, Bool, true, false, ◌&&◌, ℤ, pos, negsuc}
 use Rattle.logic_terms.specs.Node.{Op1, bit, tru, neg, fst, lst, fld, Op2, arith, le, eq, conj, disj, iff, sel, upd, Op3, ite, sto, fill, OpN, fields, call, Node, num, flag, sym, bound, op1, op2, op3, opn, quant, Nodes, no_nodes, node}
 use Rattle.term_reader.specs.declared.part.Side.{Side}
 use Rattle.term_reader.specs.declared.part.Side.TheVariants.{Term, Formula, Sort}
@@ -98,3 +98,19 @@ abbrev mutual
   pub are_terms : Nodes → Bool
   are_terms no_nodes = true
   are_terms (node a ns) = is_node Term a && are_terms ns
+
+-- numbers of 32 and 64 bits, whole numbers of 128, and terms and formulas whose numbers fit
+abbrev pub IsIndex : ℕ → Type 0
+IsIndex k = k < 2 ^ 32
+
+abbrev pub IsCount : ℕ → Type 0
+IsCount k = k < 2 ^ 64
+
+abbrev pub IsNumber : ℤ → Type 0
+IsNumber z = is_whole z ≡ true
+
+abbrev pub IsTerm : Node → Type 0
+IsTerm n = is_node Term n ≡ true
+
+abbrev pub IsFormula : Node → Type 0
+IsFormula n = is_node Formula n ≡ true

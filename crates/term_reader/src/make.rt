@@ -11,6 +11,7 @@ ghost use Rattle.term_reader.specs.Reads.{tree};
 ghost use Rattle.term_reader.specs.declared.operator.Operator.{Operator};
 ghost use Rattle.term_reader.specs.declared.part.Part.{Part};
 
+use crate::atom::{formula_part, sort_part, term_part};
 use crate::operator::Operator;
 use crate::part::Part;
 use logic_terms::{Formula, Sort, SortList, Starved, Term, TermList};
@@ -21,21 +22,21 @@ use std::alloc::Global;
 pub type PartList = Items<Part>;
 
 /// Takes the last part, a term; no other comes here.
-fn pop_term(alloc: Global, parts: &mut PartList) -> Result<Boxed<Term>, Starved>
+fn pop_term(parts: &mut PartList) -> Result<Boxed<Term>, Starved>
     ensures { IfOk result (λ t. parts.old ≡ parts.new ++ Part.Term t ∷ []) }
 {
     match parts.pop() {
-        Some(Part::Term(t)) => Ok(Boxed::new(alloc, t)?),
+        Some(Part::Term(t)) => Ok(t),
         _ => Err(Starved),
     }
 }
 
 /// Takes the last part, a formula; no other comes here.
-fn pop_formula(alloc: Global, parts: &mut PartList) -> Result<Boxed<Formula>, Starved>
+fn pop_formula(parts: &mut PartList) -> Result<Boxed<Formula>, Starved>
     ensures { IfOk result (λ p. parts.old ≡ parts.new ++ Part.Formula p ∷ []) }
 {
     match parts.pop() {
-        Some(Part::Formula(p)) => Ok(Boxed::new(alloc, p)?),
+        Some(Part::Formula(p)) => Ok(p),
         _ => Err(Starved),
     }
 }
@@ -56,10 +57,10 @@ struct Three {
 }
 
 /// The parts as one term.
-fn one_term(alloc: Global, mut parts: PartList) -> Result<Boxed<Term>, Starved>
+fn one_term(mut parts: PartList) -> Result<Boxed<Term>, Starved>
     ensures { IfOk result (λ t. parts ≡ Part.Term t ∷ []) }
 {
-    let t = pop_term(alloc, &mut parts)?;
+    let t = pop_term(&mut parts)?;
     if parts.is_empty() {
         Ok(t)
     } else {
@@ -68,11 +69,11 @@ fn one_term(alloc: Global, mut parts: PartList) -> Result<Boxed<Term>, Starved>
 }
 
 /// The parts as two terms.
-fn two_terms(alloc: Global, mut parts: PartList) -> Result<Two, Starved>
+fn two_terms(mut parts: PartList) -> Result<Two, Starved>
     ensures { IfOk result (λ r. parts ≡ Part.Term r.first ∷ Part.Term r.second ∷ []) }
 {
-    let second = pop_term(alloc, &mut parts)?;
-    let first = pop_term(alloc, &mut parts)?;
+    let second = pop_term(&mut parts)?;
+    let first = pop_term(&mut parts)?;
     if parts.is_empty() {
         Ok(Two { first, second })
     } else {
@@ -81,12 +82,12 @@ fn two_terms(alloc: Global, mut parts: PartList) -> Result<Two, Starved>
 }
 
 /// The parts as three terms.
-fn three_terms(alloc: Global, mut parts: PartList) -> Result<Three, Starved>
+fn three_terms(mut parts: PartList) -> Result<Three, Starved>
     ensures { IfOk result (λ r. parts ≡ Part.Term r.first ∷ Part.Term r.second ∷ Part.Term r.third ∷ []) }
 {
-    let third = pop_term(alloc, &mut parts)?;
-    let second = pop_term(alloc, &mut parts)?;
-    let first = pop_term(alloc, &mut parts)?;
+    let third = pop_term(&mut parts)?;
+    let second = pop_term(&mut parts)?;
+    let first = pop_term(&mut parts)?;
     if parts.is_empty() {
         Ok(Three {
             first,
@@ -99,10 +100,10 @@ fn three_terms(alloc: Global, mut parts: PartList) -> Result<Three, Starved>
 }
 
 /// The parts as one formula.
-fn one_formula(alloc: Global, mut parts: PartList) -> Result<Boxed<Formula>, Starved>
+fn one_formula(mut parts: PartList) -> Result<Boxed<Formula>, Starved>
     ensures { IfOk result (λ p. parts ≡ Part.Formula p ∷ []) }
 {
-    let p = pop_formula(alloc, &mut parts)?;
+    let p = pop_formula(&mut parts)?;
     if parts.is_empty() {
         Ok(p)
     } else {
@@ -118,11 +119,11 @@ struct TwoFormulas {
 }
 
 /// The parts as two formulas.
-fn two_formulas(alloc: Global, mut parts: PartList) -> Result<TwoFormulas, Starved>
+fn two_formulas(mut parts: PartList) -> Result<TwoFormulas, Starved>
     ensures { IfOk result (λ r. parts ≡ Part.Formula r.first ∷ Part.Formula r.second ∷ []) }
 {
-    let second = pop_formula(alloc, &mut parts)?;
-    let first = pop_formula(alloc, &mut parts)?;
+    let second = pop_formula(&mut parts)?;
+    let first = pop_formula(&mut parts)?;
     if parts.is_empty() {
         Ok(TwoFormulas { first, second })
     } else {
@@ -131,12 +132,12 @@ fn two_formulas(alloc: Global, mut parts: PartList) -> Result<TwoFormulas, Starv
 }
 
 /// A formula and two terms.
-fn choice(alloc: Global, mut parts: PartList) -> Result<Term, Starved>
+fn choice(mut parts: PartList) -> Result<Term, Starved>
     ensures { IfOk result (λ t. of_node (term t) ≡ made (build Operator.Ite) (map tree parts)) }
 {
-    let second = pop_term(alloc, &mut parts)?;
-    let first = pop_term(alloc, &mut parts)?;
-    let test = pop_formula(alloc, &mut parts)?;
+    let second = pop_term(&mut parts)?;
+    let first = pop_term(&mut parts)?;
+    let test = pop_formula(&mut parts)?;
     if parts.is_empty() {
         Ok(Term::Ite(test, first, second))
     } else {
@@ -153,12 +154,12 @@ struct Bounds {
 }
 
 /// The parts as the bounds and the body of a quantifier.
-fn range(alloc: Global, mut parts: PartList) -> Result<Bounds, Starved>
+fn range(mut parts: PartList) -> Result<Bounds, Starved>
     ensures { IfOk result (λ r. parts ≡ Part.Term r.first ∷ Part.Term r.last ∷ Part.Formula r.body ∷ []) }
 {
-    let body = pop_formula(alloc, &mut parts)?;
-    let last = pop_term(alloc, &mut parts)?;
-    let first = pop_term(alloc, &mut parts)?;
+    let body = pop_formula(&mut parts)?;
+    let last = pop_term(&mut parts)?;
+    let first = pop_term(&mut parts)?;
     if parts.is_empty() {
         Ok(Bounds { first, last, body })
     } else {
@@ -186,7 +187,7 @@ fn terms_of(alloc: Global, mut parts: PartList) -> Result<TermList, Starved>
     let mut backwards = Items::new(alloc);
     while let Some(part) = parts.pop() {
         match part {
-            Part::Term(t) => backwards.push(t)?,
+            Part::Term(t) => backwards.push(t.into_inner())?,
             _ => return Err(Starved),
         }
     }
@@ -201,7 +202,7 @@ fn sorts_of(alloc: Global, mut parts: PartList) -> Result<SortList, Starved>
     let mut backwards = Items::new(alloc);
     while let Some(part) = parts.pop() {
         match part {
-            Part::Sort(s) => backwards.push(s)?,
+            Part::Sort(s) => backwards.push(s.into_inner())?,
             _ => return Err(Starved),
         }
     }
@@ -209,13 +210,13 @@ fn sorts_of(alloc: Global, mut parts: PartList) -> Result<SortList, Starved>
 }
 
 /// The array of one sort.
-fn array_of(alloc: Global, mut parts: PartList) -> Result<Sort, Starved>
+fn array_of(mut parts: PartList) -> Result<Sort, Starved>
     ensures { IfOk result (λ s. of_kind (sort s) ≡ made (build Operator.Array) (map tree parts)) }
 {
     match parts.pop() {
         Some(Part::Sort(item)) => {
             if parts.is_empty() {
-                Ok(Sort::Array(Boxed::new(alloc, item)?))
+                Ok(Sort::Array(item))
             } else {
                 Err(Starved)
             }
@@ -225,10 +226,10 @@ fn array_of(alloc: Global, mut parts: PartList) -> Result<Sort, Starved>
 }
 
 /// A term of two terms; no other operator comes here.
-fn make_two(alloc: Global, operator: Operator, parts: PartList) -> Result<Term, Starved>
+fn make_two(operator: Operator, parts: PartList) -> Result<Term, Starved>
     ensures { IfOk result (λ t. of_node (term t) ≡ made (build operator) (map tree parts)) }
 {
-    let Two { first, second } = two_terms(alloc, parts)?;
+    let Two { first, second } = two_terms(parts)?;
     match operator {
         Operator::Add => Ok(Term::Add(first, second)),
         Operator::Sub => Ok(Term::Sub(first, second)),
@@ -244,10 +245,10 @@ fn make_two(alloc: Global, operator: Operator, parts: PartList) -> Result<Term, 
 }
 
 /// A term of one term; no other operator comes here.
-fn make_one(alloc: Global, operator: Operator, parts: PartList) -> Result<Term, Starved>
+fn make_one(operator: Operator, parts: PartList) -> Result<Term, Starved>
     ensures { IfOk result (λ t. of_node (term t) ≡ made (build operator) (map tree parts)) }
 {
-    let t = one_term(alloc, parts)?;
+    let t = one_term(parts)?;
     match operator {
         Operator::Fst => Ok(Term::Fst(t)),
         Operator::Lst => Ok(Term::Lst(t)),
@@ -257,14 +258,14 @@ fn make_one(alloc: Global, operator: Operator, parts: PartList) -> Result<Term, 
 }
 
 /// A term of three terms; no other operator comes here.
-fn make_three(alloc: Global, operator: Operator, parts: PartList) -> Result<Term, Starved>
+fn make_three(operator: Operator, parts: PartList) -> Result<Term, Starved>
     ensures { IfOk result (λ t. of_node (term t) ≡ made (build operator) (map tree parts)) }
 {
     let Three {
         first,
         second,
         third,
-    } = three_terms(alloc, parts)?;
+    } = three_terms(parts)?;
     match operator {
         Operator::Sto => Ok(Term::Sto(first, second, third)),
         Operator::Fill => Ok(Term::Fill(first, second, third)),
@@ -311,21 +312,21 @@ fn make_term(alloc: Global, operator: Operator, parts: PartList) -> Result<Term,
     ensures { IfOk result (λ t. of_node (term t) ≡ made (build operator) (map tree parts)) }
 {
     match operator {
-        Operator::Fst | Operator::Lst | Operator::Fld(_) => make_one(alloc, operator, parts),
-        Operator::Sto | Operator::Fill => make_three(alloc, operator, parts),
-        Operator::Ite => choice(alloc, parts),
-        Operator::Bit => Ok(Term::Bit(one_formula(alloc, parts)?)),
+        Operator::Fst | Operator::Lst | Operator::Fld(_) => make_one(operator, parts),
+        Operator::Sto | Operator::Fill => make_three(operator, parts),
+        Operator::Ite => choice(parts),
+        Operator::Bit => Ok(Term::Bit(one_formula(parts)?)),
         Operator::Rec => make_record(alloc, parts),
         Operator::Call(k) => make_call(alloc, k, parts),
-        _ => make_two(alloc, operator, parts),
+        _ => make_two(operator, parts),
     }
 }
 
 /// A formula of formulas; no other operator comes here.
-fn make_connective(alloc: Global, operator: Operator, parts: PartList) -> Result<Formula, Starved>
+fn make_connective(operator: Operator, parts: PartList) -> Result<Formula, Starved>
     ensures { IfOk result (λ p. of_node (formula p) ≡ made (build operator) (map tree parts)) }
 {
-    let TwoFormulas { first, second } = two_formulas(alloc, parts)?;
+    let TwoFormulas { first, second } = two_formulas(parts)?;
     match operator {
         Operator::And => Ok(Formula::And(first, second)),
         Operator::Or => Ok(Formula::Or(first, second)),
@@ -335,10 +336,10 @@ fn make_connective(alloc: Global, operator: Operator, parts: PartList) -> Result
 }
 
 /// A formula that compares terms; no other operator comes here.
-fn make_relation(alloc: Global, operator: Operator, parts: PartList) -> Result<Formula, Starved>
+fn make_relation(operator: Operator, parts: PartList) -> Result<Formula, Starved>
     ensures { IfOk result (λ p. of_node (formula p) ≡ made (build operator) (map tree parts)) }
 {
-    let Two { first, second } = two_terms(alloc, parts)?;
+    let Two { first, second } = two_terms(parts)?;
     match operator {
         Operator::Le => Ok(Formula::Le(first, second)),
         Operator::Eq => Ok(Formula::Eq(first, second)),
@@ -347,10 +348,10 @@ fn make_relation(alloc: Global, operator: Operator, parts: PartList) -> Result<F
 }
 
 /// A quantifier; no other operator comes here.
-fn make_quantifier(alloc: Global, operator: Operator, parts: PartList) -> Result<Formula, Starved>
+fn make_quantifier(operator: Operator, parts: PartList) -> Result<Formula, Starved>
     ensures { IfOk result (λ p. of_node (formula p) ≡ made (build operator) (map tree parts)) }
 {
-    let Bounds { first, last, body } = range(alloc, parts)?;
+    let Bounds { first, last, body } = range(parts)?;
     match operator {
         Operator::All => Ok(Formula::All(first, last, body)),
         Operator::Any => Ok(Formula::Any(first, last, body)),
@@ -359,15 +360,15 @@ fn make_quantifier(alloc: Global, operator: Operator, parts: PartList) -> Result
 }
 
 /// A formula; no other operator comes here.
-fn make_formula(alloc: Global, operator: Operator, parts: PartList) -> Result<Formula, Starved>
+fn make_formula(operator: Operator, parts: PartList) -> Result<Formula, Starved>
     ensures { IfOk result (λ p. of_node (formula p) ≡ made (build operator) (map tree parts)) }
 {
     match operator {
-        Operator::Tru => Ok(Formula::Tru(one_term(alloc, parts)?)),
-        Operator::Not => Ok(Formula::Not(one_formula(alloc, parts)?)),
-        Operator::Le | Operator::Eq => make_relation(alloc, operator, parts),
-        Operator::All | Operator::Any => make_quantifier(alloc, operator, parts),
-        _ => make_connective(alloc, operator, parts),
+        Operator::Tru => Ok(Formula::Tru(one_term(parts)?)),
+        Operator::Not => Ok(Formula::Not(one_formula(parts)?)),
+        Operator::Le | Operator::Eq => make_relation(operator, parts),
+        Operator::All | Operator::Any => make_quantifier(operator, parts),
+        _ => make_connective(operator, parts),
     }
 }
 
@@ -380,7 +381,7 @@ fn record_sort(fields: SortList) -> Sort
 
 /// The parts as the fields of a sort of records.
 #[tactic(auto, using(crate::proofs::Parts::kinds_made))]
-fn make_sort(alloc: Global, parts: PartList) -> Result<Sort, Starved>
+fn make_record_sort(alloc: Global, parts: PartList) -> Result<Sort, Starved>
     ensures { IfOk result (λ s. of_kind (sort s) ≡ made (build Operator.Record) (map tree parts)) }
 {
     match sorts_of(alloc, parts) {
@@ -389,13 +390,25 @@ fn make_sort(alloc: Global, parts: PartList) -> Result<Sort, Starved>
     }
 }
 
+/// A sort; no other operator comes here.
+fn make_sort(alloc: Global, operator: Operator, parts: PartList) -> Result<Sort, Starved>
+    ensures { IfOk result (λ s. of_kind (sort s) ≡ made (build operator) (map tree parts)) }
+{
+    match operator {
+        Operator::Array => array_of(parts),
+        Operator::Record => make_record_sort(alloc, parts),
+        _ => Err(Starved),
+    }
+}
+
 /// What stands in brackets, of its parts.
 pub fn make(alloc: Global, operator: Operator, parts: PartList) -> Result<Part, Starved>
     ensures { IfOk result (λ p. tree p ≡ made (build operator) (map tree parts)) }
 {
     match operator {
-        Operator::Array => Ok(Part::Sort(array_of(alloc, parts)?)),
-        Operator::Record => Ok(Part::Sort(make_sort(alloc, parts)?)),
+        Operator::Array | Operator::Record => {
+            sort_part(alloc, make_sort(alloc, operator, parts)?)
+        }
         Operator::Tru
         | Operator::Not
         | Operator::Le
@@ -404,7 +417,7 @@ pub fn make(alloc: Global, operator: Operator, parts: PartList) -> Result<Part, 
         | Operator::Or
         | Operator::Iff
         | Operator::All
-        | Operator::Any => Ok(Part::Formula(make_formula(alloc, operator, parts)?)),
-        _ => Ok(Part::Term(make_term(alloc, operator, parts)?)),
+        | Operator::Any => formula_part(alloc, make_formula(operator, parts)?),
+        _ => term_part(alloc, make_term(alloc, operator, parts)?),
     }
 }

@@ -87,34 +87,27 @@ impl Operator {
         ensures { result ≡ wants (build self) count }
     {
         match self {
-            Operator::Add => two(Side::Term, count),
-            Operator::Sub => two(Side::Term, count),
-            Operator::Mul => two(Side::Term, count),
-            Operator::Quo => two(Side::Term, count),
-            Operator::Rem => two(Side::Term, count),
-            Operator::Mod => two(Side::Term, count),
-            Operator::Pow => two(Side::Term, count),
-            Operator::Bit => one(Side::Formula, count),
-            Operator::Ite => three(Side::Formula, count),
-            Operator::Sel => two(Side::Term, count),
-            Operator::Sto => three(Side::Term, count),
-            Operator::Fst => one(Side::Term, count),
-            Operator::Lst => one(Side::Term, count),
-            Operator::Fill => three(Side::Term, count),
-            Operator::Rec => Some(Side::Term),
-            Operator::Fld(_) => one(Side::Term, count),
-            Operator::Upd(_) => two(Side::Term, count),
-            Operator::Call(_) => Some(Side::Term),
-            Operator::Tru => one(Side::Term, count),
-            Operator::Le => two(Side::Term, count),
-            Operator::Eq => two(Side::Term, count),
-            Operator::Not => one(Side::Formula, count),
-            Operator::And => two(Side::Formula, count),
-            Operator::Or => two(Side::Formula, count),
-            Operator::Iff => two(Side::Formula, count),
-            Operator::All => bound(count),
-            Operator::Any => bound(count),
+            Operator::Add
+            | Operator::Sub
+            | Operator::Mul
+            | Operator::Quo
+            | Operator::Rem
+            | Operator::Mod
+            | Operator::Pow
+            | Operator::Sel
+            | Operator::Upd(_)
+            | Operator::Le
+            | Operator::Eq => two(Side::Term, count),
+            Operator::And | Operator::Or | Operator::Iff => two(Side::Formula, count),
+            Operator::Fst | Operator::Lst | Operator::Fld(_) | Operator::Tru => {
+                one(Side::Term, count)
+            }
+            Operator::Bit | Operator::Not => one(Side::Formula, count),
             Operator::Array => one(Side::Sort, count),
+            Operator::Sto | Operator::Fill => three(Side::Term, count),
+            Operator::Ite => three(Side::Formula, count),
+            Operator::All | Operator::Any => bound(count),
+            Operator::Rec | Operator::Call(_) => Some(Side::Term),
             Operator::Record => Some(Side::Sort),
         }
     }
@@ -124,35 +117,17 @@ impl Operator {
         ensures { result ≡ is_full (build self) count }
     {
         match self {
-            Operator::Bit => count == 1,
-            Operator::Fst => count == 1,
-            Operator::Lst => count == 1,
-            Operator::Fld(_) => count == 1,
-            Operator::Tru => count == 1,
-            Operator::Not => count == 1,
-            Operator::Array => count == 1,
-            Operator::Ite => count == 3,
-            Operator::Sto => count == 3,
-            Operator::Fill => count == 3,
-            Operator::All => count == 3,
-            Operator::Any => count == 3,
-            Operator::Rec => true,
-            Operator::Call(_) => true,
-            Operator::Record => true,
-            Operator::Add => count == 2,
-            Operator::Sub => count == 2,
-            Operator::Mul => count == 2,
-            Operator::Quo => count == 2,
-            Operator::Rem => count == 2,
-            Operator::Mod => count == 2,
-            Operator::Pow => count == 2,
-            Operator::Sel => count == 2,
-            Operator::Upd(_) => count == 2,
-            Operator::Le => count == 2,
-            Operator::Eq => count == 2,
-            Operator::And => count == 2,
-            Operator::Or => count == 2,
-            Operator::Iff => count == 2,
+            Operator::Bit
+            | Operator::Fst
+            | Operator::Lst
+            | Operator::Fld(_)
+            | Operator::Tru
+            | Operator::Not
+            | Operator::Array => count == 1,
+            Operator::Ite | Operator::Sto | Operator::Fill | Operator::All | Operator::Any => count
+                == 3,
+            Operator::Rec | Operator::Call(_) | Operator::Record => true,
+            _ => count == 2,
         }
     }
 
@@ -161,9 +136,7 @@ impl Operator {
         ensures { result ≡ ends_in_number (build self) }
     {
         match self {
-            Operator::Fld(_) => true,
-            Operator::Upd(_) => true,
-            Operator::Call(_) => true,
+            Operator::Fld(_) | Operator::Upd(_) | Operator::Call(_) => true,
             _ => false,
         }
     }

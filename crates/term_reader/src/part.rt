@@ -1,6 +1,7 @@
 //! What is read: terms, formulas and sorts.
 
 use logic_terms::{Formula, Sort, Term};
+use sqlite_items::Boxed;
 
 /// What can stand at a place of a text.
 #[derive(Clone, Copy, Debug, PartialEq, Eq)]
@@ -13,7 +14,7 @@ pub enum Side {
 /// A term, a formula or a sort.
 #[derive(Drop)]
 pub enum Part {
-    Term(Term),
-    Formula(Formula),
-    Sort(Sort),
+    Term(Boxed<Term>),
+    Formula(Boxed<Formula>),
+    Sort(Boxed<Sort>),
 }

@@ -3,12 +3,14 @@
 ghost use Rattle.std.specs.Prelude.{◌≡◌, ◌≢◌, ◌+◌, ◌<◌, ◌≤◌, ◌∷◌, ℕ, List, true, length, drop, IfOk, IfErr};
 ghost use Rattle.term_reader.specs.Bytes.{first};
 ghost use Rattle.term_reader.specs.Frames.{level_of, levels};
+ghost use Rattle.term_reader.specs.Atoms.{atom_tree};
 ghost use Rattle.term_reader.specs.Operators.{build};
 ghost use Rattle.term_reader.specs.Reads.{tree, IsRead, IsReadFault};
 ghost use Rattle.term_reader.specs.Trees.{is_full, IsAt, IsAfter};
 ghost use Rattle.term_reader.specs.Steps.{IsStep, IsStopped};
 ghost use Rattle.term_reader.specs.declared.part.Side.{Side};
 
+use crate::atom::Atom;
 use crate::bytes::byte_at;
 use crate::fault::ReadFault;
 use crate::frames::{Frame, Frames};
@@ -53,6 +55,16 @@ fn place(frames: &mut Frames, part: Part) -> Result<Step, Starved>
     }
 }
 
+/// Adds a part without brackets to the innermost bracket, if one is open.
+fn place_atom(alloc: Global, frames: &mut Frames, atom: Atom) -> Result<Step, Starved>
+    ensures { IfOk result (λ s. (text : List ℕ) (whole : Side) (r : List ℕ)
+        → IsAfter text whole (atom_tree atom) (levels frames.old) r
+        → IsStep text whole s (levels frames.new) r) }
+{
+    let part = atom.part(alloc)?;
+    place(frames, part)
+}
+
 /// Opens a bracket, whose place this is.
 fn open(
     alloc: Global,
@@ -94,7 +106,13 @@ fn open(
 }
 
 /// Reads a part without brackets.
-fn take_leaf(bytes: &[u8], at: usize, side: Side, frames: &mut Frames) -> Result<Moved, ReadFault>
+fn take_leaf(
+    alloc: Global,
+    bytes: &[u8],
+    at: usize,
+    side: Side,
+    frames: &mut Frames,
+) -> Result<Moved, ReadFault>
     requires place { at ≤ length bytes.now }
     requires open { first (drop at bytes.now) ≢ 40 }
     ensures before { IfOk result (λ m. at < m.to) }
@@ -108,7 +126,7 @@ fn take_leaf(bytes: &[u8], at: usize, side: Side, frames: &mut Frames) -> Result
 {
     match read_leaf(bytes, at, side) {
         Err(to) => Err(ReadFault::BadText(to)),
-        Ok(leaf) => match place(frames, leaf.part) {
+        Ok(leaf) => match place_atom(alloc, frames, leaf.atom) {
             Err(_) => Err(ReadFault::Starved),
             Ok(step) => Ok(Moved { step, to: leaf.to }),
         },
@@ -137,7 +155,7 @@ fn read_front(
     if byte_at(bytes, at) == 40 {
         open(alloc, bytes, at, side, frames)
     } else {
-        take_leaf(bytes, at, side, frames)
+        take_leaf(alloc, bytes, at, side, frames)
     }
 }
 

@@ -109,7 +109,7 @@ pub fn common(word: &[u8], bytes: &[u8], at: usize) -> usize
 }
 
 /// The greater of two numbers.
-fn greater(a: usize, b: usize) -> usize
+pub fn greater(a: usize, b: usize) -> usize
     ensures { result ≡ max a b }
 {
     if a < b { b } else { a }

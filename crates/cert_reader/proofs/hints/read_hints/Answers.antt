@@ -1,5 +1,5 @@
 use Rattle.std.proofs.Common.{◌∙◌, arith}
-use Rattle.logic_text.proofs.Places.{bad_at, steps_at}
+use Rattle.term_reader.proofs.Places.{bad_at, steps_at}
 use Rattle.cert_reader.specs.Phases.{hints, Has}
 use Rattle.cert_reader.proofs.Lists.{hints_over}
 use Rattle.cert_reader.proofs.hints.read_hints.Goals as goal

@@ -1,6 +1,6 @@
 use Rattle.std.proofs.Common.{◌≡◌, ◌-◌, ◌≤◌, ◌++◌, length, drop}
 use Rattle.logic_text.specs.Certs.{numbers_text}
-use Rattle.logic_text.specs.Phases.{IsUpTo}
+use Rattle.term_reader.specs.Phases.{IsUpTo}
 use Rattle.cert_reader.specs.Phases.{hints, Has}
 use Rattle.cert_reader.proofs.hints.read_hints.Given as goal
 

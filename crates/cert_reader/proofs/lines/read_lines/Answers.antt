@@ -1,5 +1,5 @@
 use Rattle.std.proofs.Common.{drop, arith}
-use Rattle.logic_text.proofs.Places.{bad_at, steps_at}
+use Rattle.term_reader.proofs.Places.{bad_at, steps_at}
 use Rattle.cert_reader.specs.Phases.{InLines}
 use Rattle.cert_reader.specs.Entries.{IsEntry}
 use Rattle.cert_reader.proofs.Wholes.{line_added}

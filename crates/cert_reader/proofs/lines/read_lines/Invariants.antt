@@ -1,7 +1,7 @@
 use Rattle.std.proofs.Common.{◌≡◌, ◌-◌, ◌≤◌, ◌++◌, length, drop, map}
 use Rattle.cert_lines.specs.View.{line as line_of}
 use Rattle.logic_text.specs.Certs.{lines_text}
-use Rattle.logic_text.specs.Phases.{IsUpTo}
+use Rattle.term_reader.specs.Phases.{IsUpTo}
 use Rattle.cert_reader.specs.Phases.{InLines}
 use Rattle.cert_reader.proofs.lines.read_lines.Given as goal
 

@@ -1,4 +1,4 @@
-use Rattle.std.proofs.Common.{arith}
+use Rattle.std.proofs.Common.{◌∙◌, ap, [], ◌∷◌, ◌++◌, arith}
 use Rattle.cert_reader.proofs.Lists.{formula_text, formulas_on, formulas_bad, formulas_over, number_more}
 use Rattle.cert_reader.proofs.literals.read_formulas.Goals as goal
 
@@ -11,11 +11,12 @@ loop-left-preserved c =
     let i = c.loop-left.invariant in
     let h = c.in-Ok.ensures in
     let b = i.before in
-    let d = h.before in record {
+    let d = h.before in
+    let e = c.in-Ok-push.ensures.ok ∙ ap (λ p. c.loop-left.literals ++ p ∷ []) c.into_inner.ensures in record {
       before = omega arith;
       inside = h.inside;
-      number = number_more c.loop-left.literals _ c.in-Ok.read.formula c.loop-left.left c.args.count c.in-Ok-push.ensures.ok c.loop-left-test.true i.number;
-      text = formula_text c.loop-left.literals _ c.in-Ok.read.formula _ _ _ c.in-Ok-push.ensures.ok i.text h.text;
+      number = number_more c.loop-left.literals _ _ c.loop-left.left c.args.count e c.loop-left-test.true i.number;
+      text = formula_text c.loop-left.literals _ _ _ _ _ e i.text h.text;
       on = formulas_on c.args.count c.loop-left.left c.args.bytes.now c.args.at c.loop-left.to c.in-Ok.read.to c.loop-left-test.true i.on h.on;
     }
 

@@ -1,7 +1,7 @@
 use Rattle.std.proofs.Common.{◌≡◌, ◌+◌, ◌≤◌, ◌++◌, length, drop, map}
 use Rattle.logic_terms.specs.View.{formula as formula_of}
 use Rattle.logic_text.specs.Certs.{nodes_text}
-use Rattle.logic_text.specs.Phases.{IsUpTo}
+use Rattle.term_reader.specs.Phases.{IsUpTo}
 use Rattle.cert_reader.specs.Phases.{Phase, times, Has}
 use Rattle.cert_reader.proofs.literals.read_formulas.Given as goal
 

@@ -1,4 +1,4 @@
-use Rattle.logic_text.proofs.Places.{bad_at, steps_at}
+use Rattle.term_reader.proofs.Places.{bad_at, steps_at}
 use Rattle.cert_reader.specs.Phases.{times, counted, Has}
 use Rattle.cert_reader.proofs.Lists.{literals_are}
 use Rattle.cert_reader.proofs.literals.read_literals.Goals as goal

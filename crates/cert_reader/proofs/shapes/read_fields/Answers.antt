@@ -1,6 +1,6 @@
 use Rattle.std.proofs.Common.{sym, subst}
 use Rattle.std.specs.Prelude.{IfErr}
-use Rattle.logic_text.specs.Phases.{IsBadAt}
+use Rattle.term_reader.specs.Phases.{IsBadAt}
 use Rattle.cert_reader.specs.Phases.{Has, fields}
 use Rattle.cert_reader.specs.declared.line_word.LineWord.{LineWord}
 use Rattle.cert_reader.proofs.shapes.read_fields.Goals as goal

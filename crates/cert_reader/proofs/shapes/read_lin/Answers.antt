@@ -3,7 +3,7 @@ use Rattle.std.proofs.Common.{drop, map, arith}
 use Rattle.cert_lines.specs.Line.{linear}
 use Rattle.cert_lines.specs.View.{step as step_of}
 use Rattle.logic_text.specs.Certs.{steps_text}
-use Rattle.logic_text.proofs.Places.{bad_at, steps_at}
+use Rattle.term_reader.proofs.Places.{bad_at, steps_at}
 use Rattle.cert_reader.specs.Phases.{ended, steps, counted, Has}
 use Rattle.cert_reader.proofs.Forms.{text_is, literals_then}
 use Rattle.cert_reader.proofs.shapes.read_lin.Goals as goal

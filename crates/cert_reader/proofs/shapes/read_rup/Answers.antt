@@ -2,7 +2,7 @@ use Rattle.logic_terms.specs.View.{formula as formula_of}
 use Rattle.std.proofs.Common.{drop, map, arith}
 use Rattle.cert_lines.specs.Line.{propagation}
 use Rattle.logic_text.specs.Certs.{numbers_text}
-use Rattle.logic_text.proofs.Places.{bad_at, steps_at}
+use Rattle.term_reader.proofs.Places.{bad_at, steps_at}
 use Rattle.cert_reader.specs.Phases.{ended, hints, counted, Has}
 use Rattle.cert_reader.proofs.Forms.{text_is, literals_then}
 use Rattle.cert_reader.proofs.shapes.read_rup.Goals as goal

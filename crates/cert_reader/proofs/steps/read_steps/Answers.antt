@@ -1,6 +1,6 @@
 use Rattle.std.proofs.Common.{sym, ◌∙◌, arith, lit<}
 use Rattle.term_reader.proofs.Fronts.{first_is}
-use Rattle.logic_text.proofs.Places.{bad_at, steps_at}
+use Rattle.term_reader.proofs.Places.{bad_at, steps_at}
 use Rattle.cert_reader.specs.Phases.{steps, Has}
 use Rattle.cert_reader.proofs.Lists.{next_step_text, steps_over}
 use Rattle.cert_reader.proofs.steps.read_steps.Goals as goal

@@ -1,7 +1,7 @@
 use Rattle.std.proofs.Common.{◌≡◌, ◌-◌, ◌≤◌, ◌++◌, length, drop, map}
 use Rattle.cert_lines.specs.View.{step as step_of}
 use Rattle.logic_text.specs.Certs.{steps_text}
-use Rattle.logic_text.specs.Phases.{IsUpTo}
+use Rattle.term_reader.specs.Phases.{IsUpTo}
 use Rattle.cert_reader.specs.Phases.{steps, Has}
 use Rattle.cert_reader.proofs.steps.read_steps.Given as goal
 

@@ -1,7 +1,7 @@
 use Rattle.std.proofs.Common.{◌+◌, FitsSigned, rules}
 use Rattle.std.proofs.lemmas.Int.{to_z-of_z}
 use Rattle.std.specs.Int.{w128}
-use Rattle.logic_text.proofs.Places.{bad_at, steps_at}
+use Rattle.term_reader.proofs.Places.{bad_at, steps_at}
 use Rattle.cert_reader.specs.Phases.{index, whole, Has}
 use Rattle.cert_reader.proofs.Lists.{sum_is, sum_on, sum_bad, sums}
 use Rattle.cert_reader.proofs.steps.read_sum.Goals as goal

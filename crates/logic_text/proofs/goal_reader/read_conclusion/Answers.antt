@@ -1,5 +1,6 @@
 use Rattle.std.proofs.Common.{◌<◌, length, arith}
-use Rattle.logic_text.proofs.Formulas.{conclusion_bad, more_bad, byte_before_end}
+use Rattle.logic_text.proofs.Formulas.{conclusion_bad, more_bad}
+use Rattle.term_reader.proofs.WholeTexts.{byte_before_end}
 use Rattle.logic_text.proofs.goal_reader.read_conclusion.Goals as goal
 
 pub returns-in-Err-clause-fault : goal.returns-in-Err-clause-fault

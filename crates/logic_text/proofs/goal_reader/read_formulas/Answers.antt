@@ -2,7 +2,7 @@ use Rattle.std.proofs.Common.{◌∙◌, ap, ℕ, List, ◌++◌, map}
 use Rattle.logic_terms.specs.View.{formula}
 use Rattle.logic_text.specs.Goals.{hypotheses_text}
 use Rattle.logic_text.specs.Phases.{InLines}
-use Rattle.logic_text.proofs.Places.{bad_at}
+use Rattle.term_reader.proofs.Places.{bad_at}
 use Rattle.logic_text.proofs.goal_reader.read_formulas.Goals as goal
 
 pub returns-in-Err-read_conclusion-clause-fault : goal.returns-in-Err-read_conclusion-clause-fault

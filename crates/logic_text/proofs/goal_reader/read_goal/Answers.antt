@@ -1,7 +1,9 @@
-use Rattle.logic_text.proofs.Wholes.{bad_goal}
+use Rattle.std.proofs.Common.{sym, subst}
+use Rattle.logic_text.specs.Answers.{IsGoalFault}
+use Rattle.logic_text.proofs.Wholes.{goal_fault}
 use Rattle.logic_text.proofs.goal_reader.read_goal.Goals as goal
 
-pub returns-in-Err-BadText-clause-fault : goal.returns-in-Err-BadText-clause-fault
-returns-in-Err-BadText-clause-fault c =
-    let h = rw c.in-Err-BadText.field-0-is at c.in-Err-BadText.ensures.fault in
-    (c.if-bytes-gt-MOST_GOAL_BYTES.false, bad_goal c.args.bytes.now c.in-Err-BadText.at h.0 h.1)
+pub returns-in-Err-clause-fault : goal.returns-in-Err-clause-fault
+returns-in-Err-clause-fault c =
+    subst (IsGoalFault c.args.bytes.now) (sym c.from.ensures)
+    (goal_fault c.args.bytes.now c.in-Err.fault c.if-bytes-gt-MOST_GOAL_BYTES.false c.in-Err.ensures.fault)

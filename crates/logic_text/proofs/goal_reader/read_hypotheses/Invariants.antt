@@ -1,7 +1,8 @@
 use Rattle.std.proofs.Common.{◌≡◌, ◌-◌, ◌≤◌, ◌++◌, length, drop, map}
 use Rattle.logic_terms.specs.View.{formula}
 use Rattle.logic_text.specs.Goals.{hypotheses_text}
-use Rattle.logic_text.specs.Phases.{InLines, IsUpTo}
+use Rattle.term_reader.specs.Phases.{IsUpTo}
+use Rattle.logic_text.specs.Phases.{InLines}
 use Rattle.logic_text.proofs.goal_reader.read_hypotheses.Given as goal
 
 abbrev pub invariant-loop-alloc : goal.invariant-loop-alloc

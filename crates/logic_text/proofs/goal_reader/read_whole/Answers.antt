@@ -1,10 +1,12 @@
-use Rattle.std.proofs.Common.{codes, map}
+use Rattle.std.proofs.Common.{sym, ◌∙◌, ap, ◌++◌, codes, map}
 use Rattle.logic_terms.specs.Goal.{called_as}
 use Rattle.logic_terms.specs.View.{formula}
 use Rattle.logic_text.specs.Answers.{kinds_of}
+use Rattle.logic_text.specs.Goals.{hypotheses_text, conclusion_text}
 use Rattle.logic_text.proofs.GoalTexts.{signed, stated}
-use Rattle.logic_text.specs.Phases.{After, AtStart, InCalls, InLines}
-use Rattle.logic_text.proofs.Places.{bad_at, steps_at}
+use Rattle.term_reader.specs.Phases.{After}
+use Rattle.logic_text.specs.Phases.{AtStart, InCalls, InLines}
+use Rattle.term_reader.proofs.Places.{bad_at, steps_at}
 use Rattle.logic_text.proofs.Wholes.{whole_text}
 use Rattle.logic_text.proofs.goal_reader.read_whole.Goals as goal
 
@@ -23,4 +25,6 @@ returns-in-Err-read_formulas-clause-fault c =
 
 pub returns-in-Ok-read_formulas-clause-text : goal.returns-in-Ok-read_formulas-clause-text
 returns-in-Ok-read_formulas-clause-text c =
-    whole_text (stated (signed (kinds_of c.in-Ok.sorts.symbols) (map called_as c.in-Ok-read_calls_line.calls.calls)) (map formula c.in-Ok-read_formulas.read.hypotheses) (formula c.in-Ok-read_formulas.read.conclusion)) c.args.bytes.now c.in-Ok.sorts.to c.in-Ok-read_calls_line.calls.to c.in-Ok.ensures.text c.in-Ok-read_calls_line.ensures.text c.in-Ok-read_formulas.ensures.text
+    let hs = map formula c.in-Ok-read_formulas.read.hypotheses in
+    whole_text (stated (signed (kinds_of c.in-Ok.sorts.symbols) (map called_as c.in-Ok-read_calls_line.calls.calls)) hs (formula c.into_inner.result)) c.args.bytes.now c.in-Ok.sorts.to c.in-Ok-read_calls_line.calls.to c.in-Ok.ensures.text c.in-Ok-read_calls_line.ensures.text
+    (c.in-Ok-read_formulas.ensures.text ∙ ap (λ p. hypotheses_text hs ++ conclusion_text (formula p)) (sym c.into_inner.ensures))

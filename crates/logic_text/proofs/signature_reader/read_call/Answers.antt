@@ -1,5 +1,5 @@
 use Rattle.logic_text.specs.Phases.{InCall}
-use Rattle.logic_text.proofs.Places.{bad_at}
+use Rattle.term_reader.proofs.Places.{bad_at}
 use Rattle.logic_text.proofs.signature_reader.read_call.Goals as goal
 
 pub returns-in-Err-clause-fault : goal.returns-in-Err-clause-fault

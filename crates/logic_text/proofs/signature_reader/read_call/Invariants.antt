@@ -1,7 +1,8 @@
 use Rattle.std.proofs.Common.{◌≡◌, ◌-◌, ◌≤◌, ◌++◌, length, drop, map}
 use Rattle.logic_terms.specs.Sorts.{sort, kinds_in}
 use Rattle.logic_text.specs.Goals.{taken_text}
-use Rattle.logic_text.specs.Phases.{InCall, IsUpTo}
+use Rattle.term_reader.specs.Phases.{IsUpTo}
+use Rattle.logic_text.specs.Phases.{InCall}
 use Rattle.logic_text.proofs.signature_reader.read_call.Given as goal
 
 abbrev pub invariant-loop-fault : goal.invariant-loop-fault

@@ -2,7 +2,8 @@ use Rattle.std.proofs.Common.{◌≡◌, ◌-◌, ◌≤◌, ◌++◌, All, leng
 use Rattle.std.specs.Prelude.{None}
 use Rattle.logic_terms.specs.Goal.{called_as}
 use Rattle.logic_text.specs.Goals.{calls_text}
-use Rattle.logic_text.specs.Phases.{InCalls, IsUpTo}
+use Rattle.term_reader.specs.Phases.{IsUpTo}
+use Rattle.logic_text.specs.Phases.{InCalls}
 use Rattle.logic_text.proofs.signature_reader.read_calls.Given as goal
 
 abbrev pub invariant-loop-alloc : goal.invariant-loop-alloc

@@ -1,7 +1,7 @@
 use Rattle.std.proofs.Common.{sym, ◌∙◌, lit<}
 use Rattle.term_reader.proofs.Fronts.{first_is}
 use Rattle.logic_text.specs.Phases.{InSorts}
-use Rattle.logic_text.proofs.Places.{bad_at}
+use Rattle.term_reader.proofs.Places.{bad_at}
 use Rattle.logic_text.proofs.signature_reader.read_symbols.Goals as goal
 
 pub read_symbol-requires-clause-space : goal.read_symbol-requires-clause-space

@@ -2,7 +2,8 @@ use Rattle.std.proofs.Common.{◌≡◌, ◌-◌, ◌≤◌, ◌++◌, All, leng
 use Rattle.logic_terms.specs.declared.goal.Role.TheVariants.{Plain}
 use Rattle.logic_text.specs.Answers.{kinds_of}
 use Rattle.logic_text.specs.Goals.{sorts_text}
-use Rattle.logic_text.specs.Phases.{InSorts, IsUpTo}
+use Rattle.term_reader.specs.Phases.{IsUpTo}
+use Rattle.logic_text.specs.Phases.{InSorts}
 use Rattle.logic_text.proofs.signature_reader.read_symbols.Given as goal
 
 abbrev pub invariant-loop-alloc : goal.invariant-loop-alloc

@@ -1,4 +1,4 @@
-use Rattle.std.proofs.Common.{◌≡◌, refl, sym, ◌∙◌, ap, ℕ, List, ◌++◌, drop, lit<, arith}
+use Rattle.std.proofs.Common.{◌≡◌, refl, sym, ◌∙◌, ap, ℕ, List, [], ◌∷◌, ◌++◌, drop, lit<, arith}
 use Rattle.term_reader.specs.Sorts.{kind_text}
 use Rattle.logic_terms.specs.Sorts.{sort}
 use Rattle.term_reader.specs.Bytes.{first}
@@ -19,7 +19,7 @@ returns-in-Ok-push-clause-ok c =
     let m = r.before in record {
       before = omega arith;
       inside = omega arith;
-      text = argument_text c.args.arguments.now _ _ c.args.bytes.now c.args.at to c.in-Ok-push.ensures.ok f.1 r;
+      text = argument_text c.args.arguments.now _ _ c.args.bytes.now c.args.at to (c.in-Ok-push.ensures.ok ∙ ap (λ s. c.args.arguments.now ++ s ∷ []) c.into_inner.ensures) f.1 r;
       on = argument_on (sort c.in-Ok.read.sort) c.args.bytes.now c.args.at to r f.1;
     }
 

@@ -1,5 +1,5 @@
 use Rattle.std.proofs.Common.{drop}
-use Rattle.term_reader.specs.Reads.{tree}
+use Rattle.term_reader.specs.Atoms.{atom_tree}
 use Rattle.term_reader.proofs.Paths.{fault_of_part, part_read}
 use Rattle.term_reader.proofs.steps.take_leaf.Goals as goal
 
@@ -10,8 +10,8 @@ returns-in-Err-clause-fault c = λ text whole h.
       fault_of_part text whole c.args.side _ (drop c.args.at c.args.bytes.now) (drop c.in-Err.to c.args.bytes.now) h f.fault,
     )
 
-pub returns-in-Ok-place-clause-ok : goal.returns-in-Ok-place-clause-ok
-returns-in-Ok-place-clause-ok c = λ text whole h.
+pub returns-in-Ok-place_atom-clause-ok : goal.returns-in-Ok-place_atom-clause-ok
+returns-in-Ok-place_atom-clause-ok c = λ text whole h.
     let r = c.in-Ok.ensures.ok in
-    c.in-Ok-place.ensures text whole (drop c.in-Ok.leaf.to c.args.bytes.now)
-    (part_read text whole c.args.side _ (drop c.args.at c.args.bytes.now) (drop c.in-Ok.leaf.to c.args.bytes.now) (tree c.in-Ok.leaf.part) h r.text r.right r.whole)
+    c.in-Ok-place_atom.ensures text whole (drop c.in-Ok.leaf.to c.args.bytes.now)
+    (part_read text whole c.args.side _ (drop c.args.at c.args.bytes.now) (drop c.in-Ok.leaf.to c.args.bytes.now) (atom_tree c.in-Ok.leaf.atom) h r.text r.right r.whole)

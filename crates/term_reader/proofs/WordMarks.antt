@@ -4,7 +4,7 @@ use Rattle.std.proofs.lemmas.List.{append_cancel_left}
 use Rattle.term_reader.specs.Bytes.{first}
 use Rattle.term_reader.specs.Words.{IsWordFault}
 use Rattle.term_reader.proofs.Digits.{same_head}
-use Rattle.logic_text.specs.Phases.{After, IsBad}
+use Rattle.term_reader.specs.Phases.{After, IsBad}
 
 pub word_bad : (w s r k : List ℕ) (P : List ℕ → Type 0) → P k → IsWordFault w s r → IsBad (After w P) s r
 word_bad w s r k P p f = record {

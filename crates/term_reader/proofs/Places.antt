@@ -7,9 +7,9 @@ use Rattle.term_reader.specs.Trees.{Tree}
 use Rattle.term_reader.specs.declared.fault.ReadFault.{ReadFault}
 use Rattle.term_reader.specs.declared.fault.ReadFault.TheVariants as fault
 use Rattle.term_reader.specs.declared.part.Side.{Side}
-use Rattle.logic_text.specs.Phases.{After, OfPart, IsUpTo, IsBadAt}
-use Rattle.logic_text.proofs.WordMarks.{word_bad}
-use Rattle.logic_text.proofs.Reaching.{bad_whole, upto_whole, word_upto, part_upto, part_bad}
+use Rattle.term_reader.specs.Phases.{After, OfPart, IsUpTo, IsBadAt}
+use Rattle.term_reader.proofs.WordMarks.{word_bad}
+use Rattle.term_reader.proofs.Reaching.{bad_whole, upto_whole, word_upto, part_upto, part_bad}
 
 -- a fault after a step is one before it
 pub bad_at : (P Q : List ℕ → Type 0) (bytes : List ℕ) (at to : ℕ) (f : ReadFault) → IsUpTo P (drop at bytes) Q (drop to bytes) → IsBadAt Q bytes to f → IsBadAt P bytes at f

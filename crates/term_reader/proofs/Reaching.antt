@@ -4,15 +4,12 @@ use Rattle.std.proofs.lemmas.List.{append_cancel_left}
 use Rattle.term_reader.specs.Bytes.{first, Ends, IsWhole, IsFault}
 use Rattle.term_reader.specs.Trees.{Tree, tree_text, IsOf}
 use Rattle.term_reader.specs.declared.part.Side.{Side}
-use Rattle.logic_text.specs.Phases.{After, OfPart, IsBad, IsUpTo}
+use Rattle.term_reader.proofs.Fronts.{front_first}
+use Rattle.term_reader.specs.Phases.{After, OfPart, IsBad, IsUpTo}
 
 first_same : (p x y : List ℕ) → first x ≡ first y → first (p ++ x) ≡ first (p ++ y)
 first_same [] x y e = e
 first_same (c ∷ p) x y e = refl
-
-first_put : (u r rest : List ℕ) → first (u ++ (first r ∷ rest)) ≡ first (u ++ r)
-first_put [] r rest = refl
-first_put (c ∷ u) r rest = refl
 
 not_empty : (u : List ℕ) (c : ℕ) (rest : List ℕ) → u ++ (c ∷ rest) ≡ [] → ⊥
 not_empty [] c rest e = cc
@@ -33,7 +30,7 @@ bad_whole P Q s r q u b = record {
   is_front = u.is_front ∙ ap (λ (x : List ℕ). u.front ++ x) b.is_front ∙ sym (append_assoc u.front b.front q);
   goes = let g = b.goes in (g.0, subst P (sym (append_assoc u.front b.front g.0)) (u.into (b.front ++ g.0) g.1));
   stuck = λ rest h.
-      b.stuck rest (u.out (b.front ++ (first q ∷ rest)) (not_empty b.front (first q) rest) (first_put b.front q rest ∙ sym (ap first b.is_front))
+      b.stuck rest (u.out (b.front ++ (first q ∷ rest)) (not_empty b.front (first q) rest) (front_first b.front q rest ∙ sym (ap first b.is_front))
       (subst P (append_assoc u.front b.front (first q ∷ rest)) h));
 }
 

@@ -1,8 +1,8 @@
 use Rattle.std.proofs.Common.{◌∙◌, drop, FitsSigned, rules}
 use Rattle.std.proofs.lemmas.Int.{to_z-of_z}
 use Rattle.std.specs.Int.{w128}
-use Rattle.cert_reader.proofs.Leaves.{natural_fault, natural_fits, natural_text}
-use Rattle.cert_reader.proofs.numbers.read_natural.Goals as goal
+use Rattle.term_reader.proofs.WholeNumbers.{natural_fault, natural_fits, natural_text}
+use Rattle.term_reader.proofs.whole.read_natural.Goals as goal
 
 pub returns-in-Err-clause-fault : goal.returns-in-Err-clause-fault
 returns-in-Err-clause-fault c =

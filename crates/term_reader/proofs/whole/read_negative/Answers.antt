@@ -1,8 +1,8 @@
 use Rattle.std.proofs.Common.{◌∙◌, drop, ◌+◌, FitsSigned, rules}
 use Rattle.std.proofs.lemmas.Int.{to_z-of_z}
 use Rattle.std.specs.Int.{w128}
-use Rattle.cert_reader.proofs.Leaves.{negative_fault, negative_fits, negative_text}
-use Rattle.cert_reader.proofs.numbers.read_negative.Goals as goal
+use Rattle.term_reader.proofs.WholeNumbers.{negative_fault, negative_fits, negative_text}
+use Rattle.term_reader.proofs.whole.read_negative.Goals as goal
 
 pub returns-in-Err-clause-fault : goal.returns-in-Err-clause-fault
 returns-in-Err-clause-fault c =
