@@ -2,7 +2,6 @@
 use Rattle.std.proofs.Common.{◌≡◌, refl, sym, ◌∙◌, ap, ℕ, ◌+◌, ◌<◌, ◌≤◌, Bool, true, false, List, [], ◌∷◌, ◌++◌, map, length, get_or, drop, take, reverse}
 use Rattle.std.specs.Prelude.{if◌then◌else◌, Result, Ok, Err, IfOk}
 use Rattle.std.proofs.lemmas.List.{map-append, reverse-append}
-use Rattle.logic_terms.specs.declared.starved.Starved.{Starved}
 use Rattle.cert_lines.specs.Line.{Step}
 use Rattle.cert_lines.specs.View.{step}
 use Rattle.cert_lines.specs.declared.step.StepLine.{StepLine}
@@ -46,6 +45,6 @@ pub lines_found : (inputs last : ℕ) (xs : List StepLine) (found turned : List 
 lines_found inputs last xs found turned ls e f g =
     g ∙ ap (lines_of inputs) (ap (map numbered_step) f ∙ turned_over numbered_step found ∙ ap reverse e)
 
-pub lines_made : (inputs last : ℕ) (xs : List StepLine) (found turned slice : List NumberedStep) (r : Result (List StepLine) Starved) → map numbered_step found ≡ needed last inputs (map step xs) → turned ≡ reverse found → slice ≡ turned → IfOk r (λ ls. map step ls ≡ lines_of inputs (map numbered_step slice)) → IfOk r (λ ls. map step ls ≡ lines inputs last (map step xs))
+pub lines_made : {E : Type 0} (inputs last : ℕ) (xs : List StepLine) (found turned slice : List NumberedStep) (r : Result (List StepLine) E) → map numbered_step found ≡ needed last inputs (map step xs) → turned ≡ reverse found → slice ≡ turned → IfOk r (λ ls. map step ls ≡ lines_of inputs (map numbered_step slice)) → IfOk r (λ ls. map step ls ≡ lines inputs last (map step xs))
 lines_made inputs last xs found turned slice (Ok ls) e f s g = lines_found inputs last xs found slice (map step ls) e (s ∙ f) g
 lines_made inputs last xs found turned slice (Err x) e f s g = tt

@@ -6,7 +6,6 @@ use Rattle.std.proofs.lemmas.List.{map-append}
 use Rattle.logic_terms.specs.Node.{Node}
 use Rattle.logic_terms.specs.View.{term}
 use Rattle.logic_terms.specs.declared.syntax.Term.{Term}
-use Rattle.logic_terms.specs.declared.starved.Starved.{Starved}
 use Rattle.linear_forms.specs.Form.{Form, combined}
 use Rattle.linear_forms.specs.Fits.{combining_fits}
 use Rattle.linear_forms.specs.View.{linear}
@@ -21,7 +20,7 @@ use Rattle.linear_prover.specs.declared.machine.SetAside.{SetAside}
 use Rattle.linear_prover.specs.declared.machine.LinearMachine.{LinearMachine}
 use Rattle.linear_prover.proofs.Running.{then_same, each_map, summed_fits}
 
-pub runs_along : (p q : Running) (m : LinearMachine) (r : Result (Option LinearAnswer) Starved) → p ≡ q → Runs p m r → Runs q m r
+pub runs_along : {E : Type 0} (p q : Running) (m : LinearMachine) (r : Result (Option LinearAnswer) E) → p ≡ q → Runs p m r → Runs q m r
 runs_along p q m r e h = let P : Running → Type 0 = λ x. Runs x m r in subst P e h
 
 -- ---- pairs

@@ -1,7 +1,6 @@
 -- What the code's values are, and what its calls answer.
 use Rattle.std.specs.Prelude.{◌≡◌, map, Option, Result, MatchOption, IfOk}
 use Rattle.logic_terms.specs.View.{term}
-use Rattle.logic_terms.specs.declared.starved.Starved.{Starved}
 use Rattle.linear_forms.specs.View.{linear}
 use Rattle.cert_lines.specs.View.{step}
 use Rattle.linear_prover.specs.Machine.{Made, made, Aside, aside, State, Answer, refuted, point, gap, wide, steps_out, Running, goes_on, ends}
@@ -35,5 +34,5 @@ state m = record {
 }
 
 -- the machine goes on from its new state, or has ended with an answer
-abbrev pub Runs : Running → LinearMachine → Result (Option LinearAnswer) Starved → Type 0
+abbrev pub Runs : {E : Type 0} → Running → LinearMachine → Result (Option LinearAnswer) E → Type 0
 Runs r new outcome = IfOk outcome (λ o. MatchOption o (r ≡ goes_on (state new)) (λ a. r ≡ ends (answer a) new.budget))
