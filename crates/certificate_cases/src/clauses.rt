@@ -21,7 +21,7 @@ type Clause = Result<FormulaList, LineFault>;
 /// The sort of a term.
 fn sorted(alloc: Global, goal: &Goal, t: &Term) -> Result<Boxed<Sort>, LineFault> {
     match sort_of(alloc, goal, 0, t)? {
-        Some(sort) => Ok(Boxed::new(alloc, sort)?),
+        Some(sort) => Ok(sort),
         None => Err(LineFault::NotAllowed),
     }
 }

@@ -26,7 +26,7 @@ pub fn sort(
             let fresh = count_of(alloc, fresh.as_slice())?;
             let t = term_of(alloc, text.as_slice())?;
             match sort_of(alloc, goal, fresh, t.get()) {
-                Ok(Some(sort)) => push_sort_text(alloc, line, &sort),
+                Ok(Some(sort)) => push_sort_text(alloc, line, sort.get()),
                 Ok(None) => push(line, "none"),
                 Err(_) => Err(CaseFault::Starved),
             }
