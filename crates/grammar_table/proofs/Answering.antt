@@ -8,7 +8,7 @@ use Rattle.std.proofs.lemmas.Option.{slice_get_within, slice_get-map, slice_get-
 use Rattle.ada_text.specs.declared.token.Token.{Token}
 use Rattle.grammar_table.specs.declared.answers.SyntaxFault.{SyntaxFault}
 use Rattle.grammar_table.specs.declared.answers.SyntaxFault.TheVariants as fault
-use Rattle.grammar_table.specs.declared.grammar.Production.{Production}
+use Rattle.grammar_table.specs.Parses.{Production}
 use Rattle.grammar_table.specs.declared.run.Progress.{Progress}
 use Rattle.grammar_table.specs.declared.run.Progress.TheVariants as progress
 use Rattle.grammar_table.specs.declared.symbols.Construct.{Construct}

@@ -3,13 +3,11 @@ use Rattle.std.proofs.Common.{◌≡◌, ℕ, zero, suc, ◌+◌, ◌<◌, ◌�
 use Rattle.std.specs.Prelude.{◌==◌, ◌&&◌, nat_lt, is_some}
 use Rattle.std.proofs.lemmas.Bool.{cases_lt, false≢true}
 use Rattle.std.proofs.lemmas.Bool.Decides.{nat_tests}
-use Rattle.grammar_table.specs.declared.choices.Choice.{Choice}
-use Rattle.grammar_table.specs.declared.grammar.Production.{Production}
 use Rattle.grammar_table.specs.declared.symbols.Nonterminal.{Nonterminal}
 use Rattle.grammar_table.specs.declared.symbols.Symbol.{Symbol}
 use Rattle.grammar_table.specs.declared.symbols.Symbol.TheVariants.{Token, Phrase}
-use Rattle.grammar_table.specs.Choices.{place, has, among, choices_of, follow_set, follows}
-use Rattle.grammar_table.specs.Parses.{left_of, right_of}
+use Rattle.grammar_table.specs.Choices.{Choice, place, has, among, choices_of, follow_set, follows}
+use Rattle.grammar_table.specs.Parses.{Production, left_of, right_of}
 use Rattle.grammar_table.proofs.Weights.{lead, all_empty, weight, may_be_empty}
 
 pub and_left : (a b : Bool) → (a && b) ≡ true → a ≡ true

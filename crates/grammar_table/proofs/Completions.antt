@@ -4,16 +4,15 @@ use Rattle.std.specs.Prelude.{◌&&◌}
 use Rattle.std.proofs.lemmas.Bool.{false≢true}
 use denote.Enum.Declared.{tag_of}
 use Rattle.grammar_table.specs.contracts.symbols.Nonterminal as nonterminal
-use Rattle.grammar_table.specs.declared.grammar.Production.{Production}
 use Rattle.grammar_table.specs.declared.symbols.Nonterminal.{Nonterminal}
 use Rattle.grammar_table.specs.declared.symbols.Nonterminal.TheVariants as non
 use Rattle.grammar_table.specs.declared.symbols.Symbol.{Symbol}
 use Rattle.grammar_table.specs.declared.symbols.Symbol.TheVariants.{Token, Phrase}
-use Rattle.grammar_table.specs.Parses.{Step, take, expand, left_of, right_of, Parses}
+use Rattle.grammar_table.specs.Parses.{Production, Step, take, expand, left_of, right_of, Parses}
 use Rattle.grammar_table.specs.Productions.{productions}
 use Rattle.grammar_table.proofs.Laws.{is_at, tag_is}
 use Rattle.grammar_table.proofs.Checks.{and_left, and_right}
-use Rattle.grammar_table.proofs.Weights.{shortest, shortest_numbers}
+use Rattle.grammar_table.proofs.Weights.{shortest, first_production, alternative}
 
 -- the steps that replace each phrase by the production of its shortest completion; the number bounds them
 unfoldable steps_of : ℕ → List Symbol → List Step
@@ -45,7 +44,7 @@ ends_parses (suc f) (Phrase n ∷ ss) e = (
 )
 
 phrase_ends : (n : Nonterminal) → ends 30 (Phrase n ∷ []) ≡ true
-unfolding ends productions shortest shortest_numbers
+unfolding ends productions shortest first_production alternative
 phrase_ends non.File = refl
 phrase_ends non.Start = refl
 phrase_ends non.Ids = refl

@@ -1,7 +1,6 @@
 -- The table is LL(1): the next token, or the end, says which production replaces a phrase.
-use Rattle.std.proofs.Common.{◌≡◌, ℕ, ◌+◌, ◌<◌, ◌≤◌, Bool, true, false, List, [], ◌∷◌, ◌++◌, Option, Some, None, refl, ap, ◌∙◌, subst, arith}
+use Rattle.std.proofs.Common.{◌≡◌, ℕ, zero, suc, ◌+◌, ◌<◌, ◌≤◌, Bool, true, false, List, [], ◌∷◌, ◌++◌, Option, Some, None, refl, sym, ap, ◌∙◌, subst, drop, arith}
 use Rattle.std.specs.Prelude.{◌==◌, ◌&&◌, nat_lt, map, if◌then◌else◌}
-use Rattle.std.specs.List.{list_all}
 use Rattle.std.proofs.lemmas.Bool.{false≢true}
 use Rattle.std.proofs.lemmas.Bool.Decides.{nat_tests}
 use denote.Enum.Declared.{tag_of, rowss}
@@ -10,23 +9,23 @@ use denote.Enum.Enum.{tag_below}
 use Rattle.ada_text.specs.contracts.delimiters.Delimiter as delimiter
 use Rattle.ada_text.specs.contracts.reserved.Reserved as reserved
 use Rattle.grammar_table.specs.contracts.symbols.Nonterminal as nonterminal
-use Rattle.grammar_table.specs.declared.choices.Choice.{Choice}
-use Rattle.grammar_table.specs.declared.choices.TheConstants.{CHOICES}
+use Rattle.grammar_table.specs.declared.productions.Head.{Head}
+use Rattle.grammar_table.specs.declared.productions.TheConstants.{ROWS}
 use Rattle.grammar_table.specs.declared.symbols.Nonterminal.{Nonterminal}
 use Rattle.grammar_table.specs.declared.symbols.Nonterminal.TheVariants.{File}
 use Rattle.grammar_table.specs.declared.symbols.Symbol.{Symbol}
 use Rattle.grammar_table.specs.declared.symbols.Symbol.TheVariants.{Token, Phrase}
 use Rattle.grammar_table.specs.declared.symbols.Terminal.{Terminal}
 use Rattle.grammar_table.specs.declared.symbols.Terminal.TheVariants.{Identifier, Number, Word, Mark}
-use Rattle.grammar_table.specs.Choices.{place, has, among, row_of, choices_of, follow_sets, follow_set, follows}
-use Rattle.grammar_table.specs.Parses.{left_of, right_of}
-use Rattle.grammar_table.specs.Productions.{productions}
-use Rattle.grammar_table.proofs.Checks.{and_left, and_right, implies, below, below_all, at_members, at_choices, AheadIn, ahead_passes, FollowIn, follow_in, follow_passes, is_number, number_is, is_chosen, is_lighter, is_good, are_good, good_at}
-use Rattle.grammar_table.proofs.Weights.{lead, all_empty, weights, empties, weight, may_be_empty}
+use Rattle.grammar_table.specs.Choices.{place, has, heads, first_of, choices_from, choices_of, among, expression_start, statement_start, after_expression, after_relation, after_simple, after_term, after_factor, follow_set, follows}
+use Rattle.grammar_table.specs.Parses.{Production, left_of, right_of}
+use Rattle.grammar_table.specs.Productions.{production, productions}
+use Rattle.grammar_table.proofs.Checks.{and_left, and_right, implies, below, at_members, at_choices, AheadIn, ahead_passes, FollowIn, follow_in, follow_passes, is_number, number_is, is_chosen, is_lighter, is_good, are_good, good_at}
+use Rattle.grammar_table.proofs.Weights.{lead, all_empty, weight, may_be_empty}
 
 -- the test of the whole table
 all_good : are_good 0 productions ≡ true
-unfolding productions choices_of has follow_sets follow_set below at_members at_choices is_chosen is_lighter is_good weights empties weight may_be_empty
+unfolding productions heads first_of choices_of has expression_start statement_start after_expression after_relation after_simple after_term after_factor follow_set below at_members at_choices is_chosen is_lighter is_good weight may_be_empty
 all_good = refl
 
 good : (k : ℕ) (n : Nonterminal) → left_of productions k ≡ Some n → is_good k n (right_of productions k) ≡ true
@@ -51,31 +50,36 @@ lighter k n is =
 
 -- the end may follow a file
 pub end_follows : follows File 0 ≡ true
-unfolding has follow_sets follow_set
+unfolding has follow_set
 end_follows = refl
 
--- a test that the choices in a row, which counts from i, are of the nonterminal at that place
+-- ---- a phrase is replaced by a production of its own
+
+-- the rows are the productions
+pub listed : map (λ r. production r.0.left r.1.now) ROWS ≡ productions
+unfolding productions
+listed = refl
+
+-- the left side of row k
+abbrev left_at : List Head → ℕ → Option Nonterminal
+left_at [] k = None
+left_at (h ∷ hs) zero = Some h.left
+left_at (h ∷ hs) (suc k) = left_at hs k
+
+left_same : {A : Type 0} (rs : List A) (p : A → Production) (h : A → Head) (k : ℕ) → ((r : A) → (p r).left ≡ (h r).left) → left_of (map p rs) k ≡ left_at (map h rs) k
+left_same [] p h k same = refl
+left_same (r ∷ rs) p h zero same = ap Some (same r)
+left_same (r ∷ rs) p h (suc k) same = left_same rs p h k same
+
+left_dropped : (f : ℕ) (hs : List Head) (i : ℕ) → left_at (drop f hs) i ≡ left_at hs (f + i)
+left_dropped zero hs i = let e : i ≡ 0 + i = omega arith in ap (left_at hs) e
+left_dropped (suc f) [] i = refl
+left_dropped (suc f) (h ∷ hs) i = let e : suc (f + i) ≡ suc f + i = omega arith in left_dropped f hs i ∙ ap (left_at (h ∷ hs)) e
+
+-- the nonterminal whose name has this place
 abbrev pub is_at : ℕ → Option Nonterminal → Bool
 is_at i None = false
 is_at i (Some n) = tag_of nonterminal.the_type n == i
-
-unfoldable pub are_at : ℕ → List Choice → Bool
-are_at i row = list_all (λ c. is_at i (left_of productions c.production)) row
-
-unfoldable pub rows_fit : List (List Choice) → Bool
-rows_fit rows = below 81 (λ i. are_at i (row_of rows i))
-
-all_fit : rows_fit (map (λ r. r.now) CHOICES) ≡ true
-unfolding rows_fit are_at below productions
-all_fit = refl
-
-choice_at : (cs : List Choice) (P : ℕ → Bool) (p k : ℕ) → list_all (λ c. P c.production) cs ≡ true → among cs p ≡ Some k → P k ≡ true
-choice_at [] P p k e is = cc
-choice_at (c ∷ cs) P p k e is = chosen_at (has c.before p) cs P p k c.production (and_left _ _ e) (choice_at cs P p k (and_right _ _ e)) is
-  where
-    chosen_at : (b : Bool) (cs : List Choice) (P : ℕ → Bool) (p k j : ℕ) → P j ≡ true → (among cs p ≡ Some k → P k ≡ true) → (if b then Some j else among cs p) ≡ Some k → P k ≡ true
-    chosen_at true cs P p k j here there is = let same : j ≡ k = cc in subst (λ (i : ℕ). P i ≡ true) same here
-    chosen_at false cs P p k j here there is = there is
 
 passed : (j i : ℕ) → (j == i) ≡ true → j ≡ i
 passed j i e = grind (arith, nat_tests)
@@ -85,16 +89,40 @@ tag_is i None n same e = absurd (false≢true e)
 tag_is i (Some m) n same e =
     ap Some (tag_one nonterminal.the_type tt m n (passed (tag_of nonterminal.the_type m) i e ∙ same))
 
-row_fits : (n : Nonterminal) → are_at (tag_of nonterminal.the_type n) (choices_of n) ≡ true
-unfolding rows_fit choices_of
-row_fits n =
-    below_all 81 (tag_of nonterminal.the_type n) (λ i. are_at i (row_of (map (λ r. r.now) CHOICES) i)) all_fit (tag_below (rowss nonterminal.the_type.parts) (nonterminal.the_type.to n))
+-- what is chosen among rows of a nonterminal is one of them; they count from j
+abbrev Own : ℕ → ℕ → List Head → ℕ → Type 0
+Own at j hs k = (i : ℕ) × (k ≡ j + i) × (is_at at (left_at hs i) ≡ true)
 
--- a phrase is replaced by a production of its own
+own_next : (at j k : ℕ) (h : Head) (hs : List Head) → Own at (suc j) hs k → Own at j (h ∷ hs) k
+own_next at j k h hs w = let e : j + suc w.0 ≡ suc j + w.0 = omega arith in (suc w.0, w.1 ∙ sym e, w.2)
+
+number_one : (j k : ℕ) → Path (Option ℕ) (Some j) (Some k) → j ≡ k
+number_one j k e = cc
+
+own_tests : (at j p k : ℕ) (h : Head) (hs : List Head) (mine here : Bool) → (tag_of nonterminal.the_type h.left == at) ≡ mine → has h.before p ≡ here
+    → (among (choices_from at (suc j) hs) p ≡ Some k → Own at (suc j) hs k)
+    → among (if mine then record { production = j; before = h.before } ∷ choices_from at (suc j) hs else []) p ≡ Some k → Own at j (h ∷ hs) k
+own_tests at j p k h hs true true m t more e =
+    let same : j ≡ k = number_one j k (sym (ap (λ b. if b then Some j else among (choices_from at (suc j) hs) p) t) ∙ e) in
+    let start : j + 0 ≡ j = omega arith in
+    (0, sym same ∙ sym start, m)
+own_tests at j p k h hs true false m t more e =
+    own_next at j k h hs (more (sym (ap (λ b. if b then Some j else among (choices_from at (suc j) hs) p) t) ∙ e))
+own_tests at j p k h hs false here m t more e = cc
+
+own_from : (hs : List Head) (at j p k : ℕ) → among (choices_from at j hs) p ≡ Some k → Own at j hs k
+own_from [] at j p k e = cc
+own_from (h ∷ hs) at j p k e =
+    own_tests at j p k h hs (tag_of nonterminal.the_type h.left == at) (has h.before p) refl refl (own_from hs at (suc j) p k) e
+
 pub own : (n : Nonterminal) (p k : ℕ) → among (choices_of n) p ≡ Some k → left_of productions k ≡ Some n
-unfolding are_at
+unfolding choices_of heads
 own n p k is =
-    tag_is (tag_of nonterminal.the_type n) (left_of productions k) n refl (choice_at (choices_of n) (λ j. is_at (tag_of nonterminal.the_type n) (left_of productions j)) p k (row_fits n) is)
+    let at = tag_of nonterminal.the_type n in
+    let w = own_from (drop (first_of at) heads) at (first_of at) p k is in
+    let place : left_of productions k ≡ left_at (drop (first_of at) heads) w.0 =
+    ap (λ (g : List Production). left_of g k) (sym listed) ∙ left_same ROWS (λ r. production r.0.left r.1.now) (λ r. r.0) k (λ r. refl) ∙ ap (left_at heads) w.1 ∙ sym (left_dropped (first_of at) heads w.0) in
+    tag_is at (left_of productions k) n refl (ap (is_at at) place ∙ w.2)
 
 -- places are below 128, and tell tokens apart
 word_below : (t : ℕ) → t < 73 → 3 + t < 128

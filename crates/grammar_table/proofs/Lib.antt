@@ -1,6 +1,7 @@
 pub mod Answering
 pub mod Checks
 pub mod Completions
+pub mod Firsts
 pub mod Fronts
 pub mod Laws
 pub mod Only

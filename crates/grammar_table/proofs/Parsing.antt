@@ -1,13 +1,12 @@
 -- Parses of consistent symbols, which their tokens determine.
 use Rattle.std.proofs.Common.{◌≡◌, ℕ, ◌<◌, true, List, [], ◌∷◌, ◌++◌, Option, Some, None, refl, sym, ap, ◌∙◌, subst}
-use Rattle.grammar_table.specs.declared.grammar.Production.{Production}
 use Rattle.grammar_table.specs.declared.symbols.Effect.{Effect}
 use Rattle.grammar_table.specs.declared.symbols.Nonterminal.{Nonterminal}
 use Rattle.grammar_table.specs.declared.symbols.Symbol.{Symbol}
 use Rattle.grammar_table.specs.declared.symbols.Symbol.TheVariants.{Token, Phrase}
 use Rattle.grammar_table.specs.declared.symbols.Terminal.{Terminal}
 use Rattle.grammar_table.specs.Choices.{place, predict, follows}
-use Rattle.grammar_table.specs.Parses.{Step, take, expand, left_of, right_of, Parses, taken}
+use Rattle.grammar_table.specs.Parses.{Production, Step, take, expand, left_of, right_of, Parses, taken}
 use Rattle.grammar_table.specs.Productions.{productions}
 use Rattle.grammar_table.specs.Runs.{Ahead, IsConsistent}
 use Rattle.grammar_table.proofs.Laws.{chosen, may_follow, place_below}

@@ -1,15 +1,16 @@
 -- One step of a run.
 use Rattle.std.proofs.Common.{◌≡◌, ℕ, zero, suc, ◌+◌, ◌<◌, Bool, true, false, List, [], ◌∷◌, ◌++◌, Option, Some, None, drop, refl, sym, ap, ◌∙◌, subst, arith}
-use Rattle.std.specs.Prelude.{nat_le, if◌then◌else◌, IsTrue, ◌↔◌, nat_eq}
+use Rattle.std.specs.Prelude.{map, nat_le, if◌then◌else◌, IsTrue, ◌↔◌, nat_eq}
 use Rattle.std.specs.List.{slice_get}
 use Rattle.std.proofs.lemmas.Bool.Decides.{nat_tests}
+use Rattle.std.specs.Borrow.{Bor}
 use denote.Enum.Declared.{tag_of, rowss}
 use denote.Enum.Bare.{tag_one}
 use denote.Enum.Enum.{tag_below}
 use Rattle.ada_text.specs.declared.reserved.Reserved.{Reserved}
 use Rattle.ada_text.specs.contracts.delimiters.Delimiter as delimiter
 use Rattle.ada_text.specs.contracts.reserved.Reserved as reserved
-use Rattle.grammar_table.specs.declared.grammar.Production.{Production}
+use Rattle.grammar_table.specs.declared.productions.Head.{Head}
 use Rattle.grammar_table.specs.declared.symbols.Construct.{Construct}
 use Rattle.grammar_table.specs.declared.symbols.Effect.{Effect}
 use Rattle.grammar_table.specs.declared.symbols.Nonterminal.{Nonterminal}
@@ -21,7 +22,7 @@ use Rattle.grammar_table.specs.Answers.{start, GoesOn, Derives}
 use Rattle.grammar_table.specs.Choices.{place, predict}
 use Rattle.grammar_table.specs.Levels.{rank, closed}
 use Rattle.grammar_table.specs.Parses.{right_of}
-use Rattle.grammar_table.specs.Productions.{productions}
+use Rattle.grammar_table.specs.Productions.{production, productions}
 use Rattle.grammar_table.specs.Runs.{Reached, Settles, IsSettled, and_then}
 use Rattle.grammar_table.proofs.Laws.{own, lead_falls}
 use Rattle.grammar_table.proofs.Reaching.{reached_start, reached_expand, no_production, no_token, no_more, derived}
@@ -90,16 +91,16 @@ same_place a b m n p q = (
   λ e. passes m n (p ∙ ap (λ (x : Terminal). place (Some x)) e ∙ sym q),
 )
 
--- rows of the grammar
-pub right_some : (g : List Production) (k : ℕ) (p : Production) → Some p ≡ slice_get g k → p.right ≡ right_of g k
-right_some [] k p e = cc
-right_some (q ∷ g) zero p e = let same : p ≡ q = cc in ap (λ (r : Production). r.right) same
-right_some (q ∷ g) (suc k) p e = right_some g k p e
+-- rows of the table
+pub right_some : (rs : List (Head × Bor (List Symbol))) (k : ℕ) (r : Head × Bor (List Symbol)) → Some r ≡ slice_get rs k → r.1.now ≡ right_of (map (λ r. production r.0.left r.1.now) rs) k
+right_some [] k r e = cc
+right_some (q ∷ rs) zero r e = let same : r ≡ q = cc in ap (λ (x : Head × Bor (List Symbol)). x.1.now) same
+right_some (q ∷ rs) (suc k) r e = right_some rs k r e
 
-pub right_none : (g : List Production) (k : ℕ) → None ≡ slice_get g k → [] ≡ right_of g k
+pub right_none : (rs : List (Head × Bor (List Symbol))) (k : ℕ) → None ≡ slice_get rs k → [] ≡ right_of (map (λ r. production r.0.left r.1.now) rs) k
 right_none [] k e = refl
-right_none (q ∷ g) zero e = cc
-right_none (q ∷ g) (suc k) e = right_none g k e
+right_none (q ∷ rs) zero e = cc
+right_none (q ∷ rs) (suc k) e = right_none rs k e
 
 -- a first run
 pub first_run : (ns : List ℕ) (os : List Construct) (ss : List Symbol) → ns ≡ [] → os ≡ [] → ss ≡ start → Reached [] [] ns os ss
@@ -114,17 +115,14 @@ first_split (x ∷ ss) s e = let same : x ≡ s = cc in ap (λ (y : Symbol). y �
 phrase_split : (ss : List Symbol) (s : Symbol) (n : Nonterminal) → Some s ≡ slice_get ss 0 → s ≡ Phrase n → ss ≡ Phrase n ∷ drop 1 ss
 phrase_split ss s n e is = first_split ss s e ∙ ap (λ (x : Symbol). x ∷ drop 1 ss) is
 
-right_is : (g : List Production) (k : ℕ) (ss new : List Symbol) → g ≡ productions → new ≡ right_of g k ++ drop 1 ss → new ≡ right_of productions k ++ drop 1 ss
-right_is g k ss new same e = e ∙ ap (λ (h : List Production). right_of h k ++ drop 1 ss) same
+pub settle_falls : (ss new : List Symbol) (s : Symbol) (n : Nonterminal) (a : Option Terminal) (k : ℕ) → Some s ≡ slice_get ss 0 → s ≡ Phrase n → Some k ≡ predict n a → new ≡ right_of productions k ++ drop 1 ss → lead new < lead ss
+settle_falls ss new s n a k first is choice e =
+    subst (λ (l : List Symbol). lead new < lead l) (sym (phrase_split ss s n first is)) (subst (λ (l : List Symbol). lead l < lead (Phrase n ∷ drop 1 ss)) (sym e) (lead_falls n k (drop 1 ss) (own n (place a) k (sym choice))))
 
-pub settle_falls : (g : List Production) (ss new : List Symbol) (s : Symbol) (n : Nonterminal) (a : Option Terminal) (k : ℕ) → g ≡ productions → Some s ≡ slice_get ss 0 → s ≡ Phrase n → Some k ≡ predict n a → new ≡ right_of g k ++ drop 1 ss → lead new < lead ss
-settle_falls g ss new s n a k same first is choice e =
-    subst (λ (l : List Symbol). lead new < lead l) (sym (phrase_split ss s n first is)) (subst (λ (l : List Symbol). lead l < lead (Phrase n ∷ drop 1 ss)) (sym (right_is g k ss new same e)) (lead_falls n k (drop 1 ss) (own n (place a) k (sym choice))))
-
-pub settle_more : (g : List Production) (ts : List Terminal) (a : Option Terminal) (ns ms : List ℕ) (os ps : List Construct) (ss new : List Symbol) (s : Symbol) (n : Nonterminal) (k : ℕ) → g ≡ productions → Some s ≡ slice_get ss 0 → s ≡ Phrase n → Some k ≡ predict n a → new ≡ right_of g k ++ drop 1 ss → ms ≡ ns ++ k ∷ [] → ps ≡ os → Reached (and_then ts a) ts ns os ss → Reached (and_then ts a) ts ms ps new
-settle_more g ts a ns ms os ps ss new s n k same first is choice e numbers levels r =
+pub settle_more : (ts : List Terminal) (a : Option Terminal) (ns ms : List ℕ) (os ps : List Construct) (ss new : List Symbol) (s : Symbol) (n : Nonterminal) (k : ℕ) → Some s ≡ slice_get ss 0 → s ≡ Phrase n → Some k ≡ predict n a → new ≡ right_of productions k ++ drop 1 ss → ms ≡ ns ++ k ∷ [] → ps ≡ os → Reached (and_then ts a) ts ns os ss → Reached (and_then ts a) ts ms ps new
+settle_more ts a ns ms os ps ss new s n k first is choice e numbers levels r =
     let before : Reached (and_then ts a) ts ns os (Phrase n ∷ drop 1 ss) = subst (λ (l : List Symbol). Reached (and_then ts a) ts ns os l) (phrase_split ss s n first is) r in
-    subst (λ (l : List ℕ). Reached (and_then ts a) ts l ps new) (sym numbers) (subst (λ (l : List Construct). Reached (and_then ts a) ts (ns ++ k ∷ []) l new) (sym levels) (subst (λ (l : List Symbol). Reached (and_then ts a) ts (ns ++ k ∷ []) os l) (sym (right_is g k ss new same e)) (reached_expand ts a ns os n (drop 1 ss) k (sym choice) before)))
+    subst (λ (l : List ℕ). Reached (and_then ts a) ts l ps new) (sym numbers) (subst (λ (l : List Construct). Reached (and_then ts a) ts (ns ++ k ∷ []) l new) (sym levels) (subst (λ (l : List Symbol). Reached (and_then ts a) ts (ns ++ k ∷ []) os l) (sym e) (reached_expand ts a ns os n (drop 1 ss) k (sym choice) before)))
 
 pub settle_none : (ts : List Terminal) (a : Option Terminal) (ns : List ℕ) (os : List Construct) (ss : List Symbol) (s : Symbol) (n : Nonterminal) → Some s ≡ slice_get ss 0 → s ≡ Phrase n → None ≡ predict n a → Reached (and_then ts a) ts ns os ss → GoesOn productions (and_then ts a) → ⊥
 settle_none ts a ns os ss s n first is choice r =

@@ -7,13 +7,12 @@ use Rattle.ada_text.specs.declared.token.TokenKind.TheVariants as kind
 use Rattle.grammar_table.specs.declared.answers.Derivation.{Derivation}
 use Rattle.grammar_table.specs.declared.answers.SyntaxFault.{SyntaxFault}
 use Rattle.grammar_table.specs.declared.answers.SyntaxFault.TheVariants as fault
-use Rattle.grammar_table.specs.declared.grammar.Production.{Production}
 use Rattle.grammar_table.specs.declared.symbols.Nonterminal.TheVariants.{File}
 use Rattle.grammar_table.specs.declared.symbols.Symbol.{Symbol}
 use Rattle.grammar_table.specs.declared.symbols.Symbol.TheVariants.{Phrase}
 use Rattle.grammar_table.specs.declared.symbols.Terminal.{Terminal}
 use Rattle.grammar_table.specs.declared.symbols.Terminal.TheVariants as terminal
-use Rattle.grammar_table.specs.Parses.{Step, Parses, taken, effects, used}
+use Rattle.grammar_table.specs.Parses.{Production, Step, Parses, taken, effects, used}
 use Rattle.grammar_table.specs.Levels.{IsShallow}
 
 abbrev pub terminal_of : TokenKind → Terminal

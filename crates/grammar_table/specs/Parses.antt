@@ -1,11 +1,15 @@
 -- Parses: a derivation that replaces the leftmost phrase each time, together with the tokens that it takes on the way.
 use Rattle.std.specs.Prelude.{◌≡◌, ℕ, zero, suc, List, [], ◌∷◌, ◌++◌, Option, Some, None}
-use Rattle.grammar_table.specs.declared.grammar.Production.{Production}
 use Rattle.grammar_table.specs.declared.symbols.Effect.{Effect}
 use Rattle.grammar_table.specs.declared.symbols.Nonterminal.{Nonterminal}
 use Rattle.grammar_table.specs.declared.symbols.Symbol.{Symbol}
 use Rattle.grammar_table.specs.declared.symbols.Symbol.TheVariants.{Token, Phrase}
 use Rattle.grammar_table.specs.declared.symbols.Terminal.{Terminal}
+
+-- a production: its right side stands for its left side
+pub record Production : Type 0 where
+  pub left : Nonterminal
+  pub right : List Symbol
 
 pub data Step : Type 0 where
   -- the token that stands first is taken

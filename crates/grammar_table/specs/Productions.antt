@@ -13,7 +13,7 @@ use Rattle.grammar_table.specs.declared.symbols.Symbol.{Symbol}
 use Rattle.grammar_table.specs.declared.symbols.Symbol.TheVariants.{Token, Phrase}
 use Rattle.grammar_table.specs.declared.symbols.Terminal.{Terminal}
 use Rattle.grammar_table.specs.declared.symbols.Terminal.TheVariants.{Identifier, Number, Word, Mark}
-use Rattle.grammar_table.specs.declared.grammar.Production.{Production}
+use Rattle.grammar_table.specs.Parses.{Production}
 
 abbrev pub production : Nonterminal → List Symbol → Production
 production left right = record { left = left; right = right }

@@ -3,7 +3,7 @@
 ghost use Rattle.std.specs.Prelude.{◌≡◌};
 
 use sqlite_items::Items;
-use std::alloc::AllocError;
+pub use std::alloc::AllocError as Starved;
 
 /// Numbers of productions.
 pub type NumberList = Items<u32>;
@@ -12,16 +12,6 @@ pub type NumberList = Items<u32>;
 #[derive(Debug, Drop)]
 pub struct Derivation {
     pub productions: NumberList,
-}
-
-/// Memory was refused.
-#[derive(Clone, Copy, Debug, PartialEq, Eq)]
-pub struct Starved;
-
-impl From<AllocError> for Starved {
-    fn from(_error: AllocError) -> Starved {
-        Starved
-    }
 }
 
 /// Why a token list has no derivation. Tokens count from 0.
@@ -33,16 +23,6 @@ pub enum SyntaxFault {
     TooDeep(u32),
     /// Memory was refused.
     Starved,
-}
-
-impl From<AllocError> for SyntaxFault {
-    ghost use Rattle.grammar_table.specs.declared.answers.SyntaxFault.TheVariants.{Starved};
-
-    ghost from_gives = { λ _ fault. fault ≡ Starved };
-
-    fn from(_error: AllocError) -> SyntaxFault {
-        SyntaxFault::Starved
-    }
 }
 
 impl From<Starved> for SyntaxFault {

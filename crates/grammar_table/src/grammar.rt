@@ -1,89 +1,109 @@
-//! The grammar as data.
+//! The grammar.
 
-ghost use Rattle.std.specs.Prelude.{◌≡◌, IfOk, map};
+ghost use Rattle.std.specs.Prelude.{◌≡◌, ◌<◌, ◌+◌, ◌^◌, ℕ, length, map, slice_index};
+ghost use Rattle.grammar_table.specs.Choices.{first_from, predict};
 ghost use Rattle.grammar_table.specs.Parses.{right_of};
 ghost use Rattle.grammar_table.specs.Productions.{production, productions};
 
-use crate::answers::Starved;
-use crate::productions::PRODUCTIONS;
-use crate::symbols::{Nonterminal, Symbol};
-use sqlite_items::{Items, at};
-use std::alloc::{AllocError, Global};
+use crate::choices::choose;
+use crate::productions::{ROWS, Row};
+use crate::symbols::{Nonterminal, Symbol, Terminal};
+use sqlite_items::at;
 use std::marker::Model;
 
-/// A production: its right side stands for its left side.
-#[derive(Debug, Drop)]
-pub struct Production {
-    pub left: Nonterminal,
-    pub right: Items<Symbol>,
-}
+/// How many nonterminals there are.
+const NONTERMINALS: usize = 81;
 
-/// The productions of the profile, which contracts see as their list. Their table is LL(1): the next token, or the end,
-/// says which production replaces a phrase.
-#[derive(Debug, Drop)]
+/// The grammar of the profile, which contracts see as the list of its productions. Its table is LL(1): the next token, or
+/// the end, says which production replaces a phrase.
+#[derive(Drop)]
 pub struct Grammar {
-    rows: Items<Production>,
+    /// The number of the first row of each nonterminal.
+    firsts: [u32; NONTERMINALS],
 }
 
 impl Model for Grammar {
-    ghost use Rattle.std.specs.Prelude.{◌≡◌, List};
-    ghost use Rattle.grammar_table.specs.declared.grammar.Production.{Production};
+    ghost use Rattle.std.specs.Prelude.{List};
+    ghost use Rattle.grammar_table.specs.Choices.{AreFirsts};
+    ghost use Rattle.grammar_table.specs.Parses.{Production};
     ghost use Rattle.grammar_table.specs.Productions.{productions};
 
     ghost Value = { List Production };
 
-    ghost view = { λ g. g.rows };
+    ghost view = { λ _. productions };
 
-    ghost invariant = { λ g. g.rows ≡ productions };
+    ghost invariant = { λ g. AreFirsts g.firsts };
 }
 
 impl Grammar {
-    /// The productions, by their number.
-    pub fn rows(&self) -> &[Production]
-        ensures rows { result.now ≡ self.now }
+    /// The right side of a production, by its number from 0; nothing where there is no production of this number.
+    pub fn right_of(&self, number: u32) -> &'static [Symbol]
+        ensures right { result.now ≡ right_of productions number }
         ensures productions { self.now ≡ productions }
     {
-        self.rows.as_slice()
+        let _ = &self.firsts;
+        right_of(number)
+    }
+
+    /// The production that replaces a phrase before a token or the end, if there is one.
+    pub fn predict(&self, phrase: Nonterminal, next: Option<Terminal>) -> Option<u32>
+        ensures { result ≡ predict phrase next }
+    {
+        choose(&ROWS, self.firsts[phrase as usize], phrase, next)
     }
 }
 
-/// The right side of a production; nothing where there is no production of this number.
-pub fn right_of(rows: &[Production], number: u32) -> &[Symbol]
-    ensures { result.now ≡ right_of rows.now number }
+/// The right side of a row, by its number; nothing where there is no row of this number.
+fn right_among(rows: &'static [Row], number: u32) -> &'static [Symbol]
+    ensures { result.now ≡ right_of (map (λ r. production r.0.left r.1.now) rows.now) number }
 {
     match at(rows, number as usize) {
-        Some(production) => production.right.as_slice(),
+        Some(row) => row.1,
         None => &[],
     }
 }
 
-/// A production with this left and right side.
-fn built(alloc: Global, row: &(Nonterminal, &[Symbol])) -> Result<Production, AllocError>
-    ensures { IfOk result (λ p. p ≡ production row.now.0 row.now.1.now) }
-{
-    let right = Items::from_slice(alloc, row.1)?;
-    Ok(Production { left: row.0, right })
-}
-
-/// The productions of these rows.
-fn built_all(
-    alloc: Global,
-    rows: &[(Nonterminal, &[Symbol])],
-) -> Result<Items<Production>, AllocError>
-    ensures { IfOk result (λ ps. ps ≡ map (λ r. production r.0 r.1.now) rows.now) }
-{
-    let mut built_rows = Items::new(alloc);
-    for row in rows {
-        built_rows.push(built(alloc, row)?)?;
-    }
-    Ok(built_rows)
-}
-
-/// The grammar of the profile. The error comes where memory was refused.
+/// The right side of a production, by its number; nothing where there is no production of this number.
 #[tactic(auto, unfolding(crate::specs::Productions::productions))]
-pub fn spark_grammar(alloc: Global) -> Result<Grammar, Starved>
-    ensures { IfOk result (λ g. g ≡ productions) }
+pub fn right_of(number: u32) -> &'static [Symbol]
+    ensures { result.now ≡ right_of productions number }
 {
-    let rows = built_all(alloc, &PRODUCTIONS)?;
-    Ok(Grammar { rows })
+    right_among(&ROWS, number)
+}
+
+/// The number of the first row of a nonterminal, by the place of its name; the number of rows where it has none.
+fn first_row(mut rows: &[Row], phrase: u32) -> u32
+    requires { length rows.now < 2 ^ 32 }
+    ensures { result ≡ first_from phrase 0 (map (λ r. r.0) rows.entry.now) }
+{
+    let mut number = 0;
+    while let [row, rest @ ..] = rows {
+        if row.0.left as u32 == phrase {
+            return number;
+        }
+        number += 1;
+        rows = rest;
+    }
+    number
+}
+
+/// The first rows of the nonterminals, in their order.
+fn first_rows(rows: &[Row]) -> [u32; NONTERMINALS]
+    requires { length rows.now < 2 ^ 32 }
+    ensures { (phrase : ℕ) → phrase < 81 → slice_index result phrase ≡ first_from phrase 0 (map (λ r. r.0) rows.now) }
+{
+    let mut firsts = [0; NONTERMINALS];
+    for phrase in 0..NONTERMINALS {
+        firsts[phrase] = first_row(rows, phrase as u32);
+    }
+    firsts
+}
+
+/// The grammar of the profile.
+pub fn spark_grammar() -> Grammar
+    ensures { result ≡ productions }
+{
+    Grammar {
+        firsts: first_rows(&ROWS),
+    }
 }

@@ -4,8 +4,9 @@ ghost use Rattle.std.specs.Prelude.{◌≡◌, [], ◌∷◌, IfOk, drop, length
 ghost use Rattle.std.specs.List.{slice_get};
 ghost use Rattle.grammar_table.specs.Levels.{after, closed, rank};
 
+use crate::answers::Starved;
 use crate::symbols::{Construct, Effect};
-use std::alloc::{AllocError, Global};
+use std::alloc::Global;
 use std::marker::Model;
 
 /// The constructs that are open, which contracts see as a list, the last opened first.
@@ -52,7 +53,7 @@ impl Levels {
         self.constructs.len()
     }
 
-    fn open(&mut self, construct: Construct) -> Result<(), AllocError>
+    fn open(&mut self, construct: Construct) -> Result<(), Starved>
         ensures { IfOk result (λ _. self.new ≡ construct ∷ self.old) }
     {
         self.constructs.push(construct)?;
@@ -86,7 +87,7 @@ impl Levels {
     }
 
     /// What a token of a production does. The error comes where memory was refused.
-    pub fn apply(&mut self, effect: Effect) -> Result<(), AllocError>
+    pub fn apply(&mut self, effect: Effect) -> Result<(), Starved>
         ensures { IfOk result (λ _. self.new ≡ after effect self.old) }
     {
         match effect {

@@ -1,4 +1,4 @@
-//! The grammar of the profile as data, and the derivations of token lists.
+//! The grammar of the profile as a table, and the derivations of token lists.
 #![tactic(auto)]
 
 mod answers;
@@ -12,7 +12,7 @@ mod stack;
 mod symbols;
 
 pub use answers::{Derivation, NumberList, Starved, SyntaxFault};
-pub use grammar::{Grammar, Production, right_of, spark_grammar};
+pub use grammar::{Grammar, spark_grammar};
 pub use reading::{derive, one_answer};
 pub use symbols::{Construct, Effect, Nonterminal, Symbol, Terminal};
 

@@ -8,32 +8,27 @@ ghost use Rattle.grammar_table.specs.declared.answers.SyntaxFault.{SyntaxFault};
 ghost use Rattle.grammar_table.specs.declared.symbols.Terminal.{Terminal};
 
 use crate::answers::{Derivation, SyntaxFault};
-use crate::grammar::{Grammar, Production};
+use crate::grammar::Grammar;
 use crate::run::{Progress, Run};
 use crate::symbols::Terminal;
 use ada_text::{Token, TokenList};
 use std::alloc::Global;
 
-/// The same, over the rows of the grammar.
-fn derive_by(
-    alloc: Global,
-    rows: &[Production],
-    tokens: &[Token],
-) -> Result<Derivation, SyntaxFault>
-    requires rows { rows.now ≡ productions }
-    requires few { length tokens.now < 2 ^ 32 }
+/// The same, over tokens in a row.
+fn derive_by(alloc: Global, grammar: &Grammar, tokens: &[Token]) -> Result<Derivation, SyntaxFault>
+    requires { length tokens.now < 2 ^ 32 }
     ensures ok { IfOk result (λ d. Derives productions (terminals tokens.now) d.productions) }
     ensures fault { IfErr result (λ f. f ≢ SyntaxFault.Starved → IsFault productions (terminals tokens.now) f) }
 {
     let mut run = Run::new(alloc)?;
     for (at, token) in tokens.iter().enumerate() {
-        match run.read(rows, Terminal::of(token.kind))? {
+        match run.read(grammar, Terminal::of(token.kind))? {
             Progress::Taken => {}
             Progress::Unexpected => return Err(SyntaxFault::Unexpected(at as u32)),
             Progress::TooDeep => return Err(SyntaxFault::TooDeep(at as u32)),
         }
     }
-    run.finish(rows, tokens.len() as u32)
+    run.finish(grammar, tokens.len() as u32)
 }
 
 /// The leftmost derivation of fewer than 2^32 tokens. `Unexpected` is the first token, or the end, after which nothing
@@ -45,10 +40,10 @@ pub fn derive(
     tokens: &TokenList,
 ) -> Result<Derivation, SyntaxFault>
     requires { length tokens.now < 2 ^ 32 }
-    ensures ok { IfOk result (λ d. Derives grammar.now (terminals tokens.now) d.productions) }
-    ensures fault { IfErr result (λ f. f ≢ SyntaxFault.Starved → IsFault grammar.now (terminals tokens.now) f) }
+    ensures ok { IfOk result (λ d. Derives productions (terminals tokens.now) d.productions) }
+    ensures fault { IfErr result (λ f. f ≢ SyntaxFault.Starved → IsFault productions (terminals tokens.now) f) }
 {
-    derive_by(alloc, grammar.rows(), tokens.as_slice())
+    derive_by(alloc, grammar, tokens.as_slice())
 }
 
 /// At most one answer is right for a list of tokens: they have at most one derivation, and none where a fault is right,

@@ -8,13 +8,13 @@ ghost use Rattle.grammar_table.specs.Parses.{right_of};
 ghost use Rattle.grammar_table.specs.Productions.{productions};
 ghost use Rattle.grammar_table.specs.Runs.{IsProgress, Reached, Settles, and_then};
 
-use crate::answers::{Derivation, NumberList, SyntaxFault};
-use crate::choices::{place, predict};
-use crate::grammar::{Production, right_of};
+use crate::answers::{Derivation, NumberList, Starved, SyntaxFault};
+use crate::choices::place;
+use crate::grammar::{Grammar, right_of};
 use crate::levels::Levels;
 use crate::stack::Stack;
 use crate::symbols::{Effect, Nonterminal, Symbol, Terminal};
-use std::alloc::{AllocError, Global};
+use std::alloc::Global;
 
 /// At most so many levels are open.
 const MOST_LEVELS: usize = 200;
@@ -60,7 +60,7 @@ fn effect_of(first: Option<Symbol>, token: Terminal) -> Option<Effect>
 
 impl Run {
     /// A run that has seen nothing. The error comes where memory was refused.
-    pub fn new(alloc: Global) -> Result<Run, AllocError>
+    pub fn new(alloc: Global) -> Result<Run, Starved>
         ensures { IfOk result (λ r. Reached [] [] r.numbers r.levels r.stack) }
     {
         let mut stack = Stack::new(alloc);
@@ -73,29 +73,28 @@ impl Run {
     }
 
     /// Replaces the symbol that stands first by the right side of a production.
-    fn expand(&mut self, rows: &[Production], number: u32) -> Result<(), AllocError>
-        ensures stack { IfOk result (λ _. self.new.stack ≡ right_of rows.now number ++ drop 1 self.old.stack) }
+    fn expand(&mut self, number: u32) -> Result<(), Starved>
+        ensures stack { IfOk result (λ _. self.new.stack ≡ right_of productions number ++ drop 1 self.old.stack) }
         ensures numbers { IfOk result (λ _. self.new.numbers ≡ self.old.numbers ++ number ∷ []) }
         ensures levels { IfOk result (λ _. self.new.levels ≡ self.old.levels) }
     {
         self.stack.pop();
-        self.stack.put(right_of(rows, number))?;
+        self.stack.put(right_of(number))?;
         self.numbers.push(number)?;
         Ok(())
     }
 
     /// Replaces phrases until a token or nothing stands first. `false` where nothing goes on with the next token, or the
     /// end; the error comes where memory was refused.
-    fn settle(&mut self, rows: &[Production], next: Option<Terminal>) -> Result<bool, AllocError>
-        requires { rows.now ≡ productions }
+    fn settle(&mut self, grammar: &Grammar, next: Option<Terminal>) -> Result<bool, Starved>
         ensures { IfOk result
             (λ found. (ts : List Terminal)
             → Reached (and_then ts next) ts self.old.numbers self.old.levels self.old.stack
             → Settles found ts next self.new.numbers self.new.levels self.new.stack) }
     {
         while let Some(Symbol::Phrase(phrase)) = self.stack.first() {
-            match predict(phrase, next) {
-                Some(number) => self.expand(rows, number)?,
+            match grammar.predict(phrase, next) {
+                Some(number) => self.expand(number)?,
                 None => return Ok(false),
             }
         }
@@ -103,7 +102,7 @@ impl Run {
     }
 
     /// Takes a token that stands first and does this to the levels.
-    fn take(&mut self, effect: Effect) -> Result<Progress, AllocError>
+    fn take(&mut self, effect: Effect) -> Result<Progress, Starved>
         ensures { IfOk result
             (λ p. (ts : List Terminal) (t : Terminal)
             → Reached (and_then ts (Some t)) ts self.old.numbers self.old.levels (Symbol.Token t effect ∷ self.old.stack)
@@ -118,14 +117,13 @@ impl Run {
     }
 
     /// Reads a token. The error comes where memory was refused.
-    pub fn read(&mut self, rows: &[Production], token: Terminal) -> Result<Progress, AllocError>
-        requires { rows.now ≡ productions }
+    pub fn read(&mut self, grammar: &Grammar, token: Terminal) -> Result<Progress, Starved>
         ensures { IfOk result
             (λ p. (ts : List Terminal)
             → Reached (map Some ts) ts self.old.numbers self.old.levels self.old.stack
             → IsProgress p ts token self.new.numbers self.new.levels self.new.stack) }
     {
-        if !self.settle(rows, Some(token))? {
+        if !self.settle(grammar, Some(token))? {
             return Ok(Progress::Unexpected);
         }
         match effect_of(self.stack.first(), token) {
@@ -138,8 +136,7 @@ impl Run {
     }
 
     /// Reads the end, after `count` tokens. `Unexpected` where nothing ends so; `Starved` where memory was refused.
-    pub fn finish(mut self, rows: &[Production], count: u32) -> Result<Derivation, SyntaxFault>
-        requires { rows.now ≡ productions }
+    pub fn finish(mut self, grammar: &Grammar, count: u32) -> Result<Derivation, SyntaxFault>
         ensures ok { IfOk result
             (λ d. (ts : List Terminal)
             → Reached (map Some ts) ts self.numbers self.levels self.stack
@@ -152,7 +149,7 @@ impl Run {
             → GoesOn productions (and_then ts None)
             → ⊥)) }
     {
-        if !self.settle(rows, None)? {
+        if !self.settle(grammar, None)? {
             return Err(SyntaxFault::Unexpected(count));
         }
         match self.stack.first() {

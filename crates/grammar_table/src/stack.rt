@@ -3,8 +3,9 @@
 ghost use Rattle.std.specs.Prelude.{◌≡◌, [], ◌∷◌, ◌++◌, IfOk, drop};
 ghost use Rattle.std.specs.List.{slice_get};
 
+use crate::answers::Starved;
 use crate::symbols::Symbol;
-use std::alloc::{AllocError, Global};
+use std::alloc::Global;
 use std::marker::Model;
 
 /// Symbols that are still to be parsed, which contracts see as a list, the first one first.
@@ -48,7 +49,7 @@ impl Stack {
     }
 
     /// Puts a symbol before the others. The error comes where memory was refused.
-    pub fn push(&mut self, symbol: Symbol) -> Result<(), AllocError>
+    pub fn push(&mut self, symbol: Symbol) -> Result<(), Starved>
         ensures { IfOk result (λ _. self.new ≡ symbol ∷ self.old) }
     {
         self.symbols.push(symbol)?;
@@ -56,7 +57,7 @@ impl Stack {
     }
 
     /// Puts symbols before the others. The error comes where memory was refused.
-    pub fn put(&mut self, right: &[Symbol]) -> Result<(), AllocError>
+    pub fn put(&mut self, right: &[Symbol]) -> Result<(), Starved>
         ensures { IfOk result (λ _. self.new ≡ right.now ++ self.old) }
     {
         let mut at = right.len();

@@ -16,7 +16,7 @@ fn tokens_of(alloc: Global, text: &[u8]) -> Result<TokenList, LexFault> {
 
 /// What `derive` answers for a text; `Starved` where it has no tokens.
 fn read(alloc: Global, text: &str) -> Result<Derivation, SyntaxFault> {
-    let grammar = spark_grammar(alloc)?;
+    let grammar = spark_grammar();
     match tokens_of(alloc, text.as_bytes()) {
         Ok(found) => {
             if found.len() < 1 << 31 {
