@@ -4,9 +4,8 @@ use Rattle.std.proofs.lemmas.List.{drop-drop}
 use Rattle.ada_text.specs.declared.token.Token.{Token}
 use Rattle.ada_syntax.specs.declared.units.SourceUnit.{SourceUnit}
 use Rattle.grammar_table.specs.Answers.{Derives, start, terminals}
-use Rattle.grammar_table.specs.Parses.{Step, take, expand, taken}
+use Rattle.grammar_table.specs.Parses.{Production, Step, take, expand, taken}
 use Rattle.grammar_table.specs.Productions.{productions}
-use Rattle.grammar_table.specs.declared.grammar.Production.{Production}
 use Rattle.ada_tree.specs.declared.part.Part.{Part}
 use Rattle.ada_tree.specs.declared.part.Part.TheVariants as part
 use Rattle.ada_tree.specs.declared.part.UnitPart.TheVariants as unit_part

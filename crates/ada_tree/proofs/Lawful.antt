@@ -1,8 +1,7 @@
 -- Each production's rule makes a part that reads as its right side.
 use Rattle.std.proofs.Common.{◌≡◌, ℕ, zero, suc, List, [], ◌∷◌, Some, subst}
-use Rattle.grammar_table.specs.Parses.{left_of, right_of}
+use Rattle.grammar_table.specs.Parses.{Production, left_of, right_of}
 use Rattle.grammar_table.specs.Productions.{productions}
-use Rattle.grammar_table.specs.declared.grammar.Production.{Production}
 use Rattle.grammar_table.specs.declared.symbols.Nonterminal.{Nonterminal}
 use Rattle.ada_tree.specs.declared.rules.Rule.{Rule}
 use Rattle.ada_tree.specs.Made.{rule_among, rule_at, rules}

@@ -2,9 +2,8 @@
 use Rattle.std.proofs.Common.{◌≡◌, ◌≤◌, ◌+◌, refl, sym, ◌∙◌, ap, subst, ℕ, zero, suc, Bool, true, false, List, [], ◌∷◌, ◌++◌, map, length, Some, if◌then◌else◌, arith, length-append}
 use Rattle.ada_text.specs.declared.token.Token.{Token}
 use Rattle.grammar_table.specs.Answers.{start}
-use Rattle.grammar_table.specs.Parses.{Parses, Step, take, expand, left_of, right_of}
+use Rattle.grammar_table.specs.Parses.{Production, Parses, Step, take, expand, left_of, right_of}
 use Rattle.grammar_table.specs.Productions.{productions}
-use Rattle.grammar_table.specs.declared.grammar.Production.{Production}
 use Rattle.grammar_table.specs.declared.symbols.Nonterminal.{Nonterminal}
 use Rattle.grammar_table.specs.declared.symbols.Nonterminal.TheVariants as non
 use Rattle.grammar_table.specs.declared.symbols.Symbol.{Symbol}

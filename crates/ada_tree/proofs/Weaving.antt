@@ -1,9 +1,8 @@
 -- The moves of a parse are those that its productions give.
 use Rattle.std.proofs.Common.{◌≡◌, refl, ◌∙◌, ap, ℕ, List, [], ◌∷◌, ◌++◌}
-use Rattle.grammar_table.specs.declared.grammar.Production.{Production}
 use Rattle.grammar_table.specs.declared.symbols.Symbol.{Symbol}
 use Rattle.grammar_table.specs.declared.symbols.Symbol.TheVariants.{Token, Phrase}
-use Rattle.grammar_table.specs.Parses.{Parses, Step, take, expand, used, right_of}
+use Rattle.grammar_table.specs.Parses.{Production, Parses, Step, take, expand, used, right_of}
 use Rattle.ada_tree.specs.declared.weave.Move.TheVariants.{Take, Expand}
 use Rattle.ada_tree.specs.Moves.{moves_of, woven}
 

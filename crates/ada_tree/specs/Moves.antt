@@ -1,9 +1,8 @@
 -- The steps of a parse without what they say of the tokens.
 use Rattle.std.specs.Prelude.{ℕ, suc, List, [], ◌∷◌, ◌++◌}
-use Rattle.grammar_table.specs.declared.grammar.Production.{Production}
 use Rattle.grammar_table.specs.declared.symbols.Symbol.{Symbol}
 use Rattle.grammar_table.specs.declared.symbols.Symbol.TheVariants.{Token, Phrase}
-use Rattle.grammar_table.specs.Parses.{Step, take, expand, right_of}
+use Rattle.grammar_table.specs.Parses.{Production, Step, take, expand, right_of}
 use Rattle.ada_tree.specs.declared.weave.Move.{Move}
 use Rattle.ada_tree.specs.declared.weave.Move.TheVariants.{Take, Expand}
 

@@ -66,8 +66,11 @@ pub fn build(
     requires { Derives productions (terminals tokens.now) derivation.now.productions }
     ensures { IfOk result (λ unit. Spells unit tokens.now) }
 {
-    let grammar = spark_grammar(alloc)?;
-    let moves = weave(alloc, grammar.rows(), derivation.productions.as_slice())?;
+    let moves = weave(
+        alloc,
+        &spark_grammar(),
+        derivation.productions.as_slice(),
+    )?;
     let mut parts = parts_of(alloc, moves, tokens.as_slice())?;
     Ok(parts.source_unit(alloc))
 }

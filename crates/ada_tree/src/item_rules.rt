@@ -102,7 +102,7 @@ fn apply_if(alloc: Global, parts: &mut Parts) -> Result<(), Starved>
     let mut value = arms.value;
     if let Err(error) = value.put_first(Arm { condition, gives }) {
         drop(otherwise);
-        return Err(Starved::from(error));
+        return Err(error);
     }
     parts.put_item(
         alloc,

@@ -55,7 +55,7 @@ pub fn binary(alloc: Global, left: Expr, operation: Operation) -> Result<Expr, S
         Ok(left) => left,
         Err(error) => {
             drop(operand);
-            return Err(Starved::from(error));
+            return Err(error);
         }
     };
     let operand = Boxed::new(alloc, operand)?;

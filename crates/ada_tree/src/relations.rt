@@ -36,7 +36,7 @@ fn member(
         Ok(range) => range,
         Err(error) => {
             drop(first);
-            return Err(Starved::from(error));
+            return Err(error);
         }
     };
     let first = Boxed::new(alloc, first)?;

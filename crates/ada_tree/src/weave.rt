@@ -3,10 +3,11 @@
 ghost use Rattle.std.specs.Prelude.{◌≡◌, ◌∷◌, [], ◌++◌, IfOk, OnOk};
 ghost use Rattle.grammar_table.specs.Answers.{start};
 ghost use Rattle.grammar_table.specs.Parses.{right_of};
+ghost use Rattle.grammar_table.specs.Productions.{productions};
 ghost use Rattle.ada_tree.specs.Moves.{after_phrase, takes_before, woven};
 
 use crate::chain::Chain;
-use grammar_table::{Nonterminal, Production, Starved, Symbol, right_of};
+use grammar_table::{Grammar, Nonterminal, Starved, Symbol};
 use sqlite_items::Items;
 use std::alloc::Global;
 
@@ -51,12 +52,12 @@ const MOST_SYMBOLS: usize = 3_001;
 
 /// Replaces the next phrase by the right side of a production, after the tokens before it.
 fn replace(
-    rows: &[Production],
+    grammar: &Grammar,
     production: u32,
     symbols: &mut Symbols,
     moves: &mut Items<Move>,
 ) -> Result<(), Starved>
-    ensures symbols { OnOk result (symbols.new ≡ right_of rows.now production ++ after_phrase symbols.old) }
+    ensures symbols { OnOk result (symbols.new ≡ right_of productions production ++ after_phrase symbols.old) }
     ensures moves { OnOk result (moves.new ≡ moves.old ++ takes_before symbols.old ++ Move.Expand production ∷ []) }
 {
     if symbols.len() > MOST_SYMBOLS {
@@ -64,18 +65,18 @@ fn replace(
     }
     take_tokens(symbols, moves)?;
     moves.push(Move::Expand(production))?;
-    put_all(right_of(rows, production), symbols)
+    put_all(grammar.right_of(production), symbols)
 }
 
 /// The moves of the parse whose productions are these.
-pub fn weave(alloc: Global, rows: &[Production], used: &[u32]) -> Result<Items<Move>, Starved>
-    ensures { IfOk result (λ moves. moves ≡ woven rows.now used.now start) }
+pub fn weave(alloc: Global, grammar: &Grammar, used: &[u32]) -> Result<Items<Move>, Starved>
+    ensures { IfOk result (λ moves. moves ≡ woven productions used.now start) }
 {
     let mut symbols = Symbols::new(alloc);
     symbols.put_first(Symbol::Phrase(Nonterminal::File))?;
     let mut moves = Items::new(alloc);
     for production in used {
-        replace(rows, *production, &mut symbols, &mut moves)?;
+        replace(grammar, *production, &mut symbols, &mut moves)?;
     }
     take_tokens(&mut symbols, &mut moves)?;
     Ok(moves)

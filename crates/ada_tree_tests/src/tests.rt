@@ -22,9 +22,7 @@ fn tree(alloc: Global, text: &str) -> Option<SourceUnit> {
     if found.len() >= 1 << 32 {
         return None;
     }
-    let Ok(grammar) = spark_grammar(alloc) else {
-        return None;
-    };
+    let grammar = spark_grammar();
     match derive(alloc, &grammar, &found) {
         Ok(derivation) => build(alloc, &derivation, &found).ok(),
         Err(_) => None,

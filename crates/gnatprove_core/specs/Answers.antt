@@ -77,7 +77,7 @@ syntax_code syntax.Starved = []
 
 abbrev pub code_of : ReadRefusal → List ℕ
 code_of (refusal.Lex f) = lex_code f
-code_of (refusal.Syntax f) = syntax_code f
+code_of (refusal.Syntax f at) = syntax_code f
 code_of refusal.Starved = []
 
 -- the first error of the bytes, at the line and the column of its place

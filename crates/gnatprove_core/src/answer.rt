@@ -1,8 +1,8 @@
 //! The answer to the words.
 
-ghost use Rattle.std.specs.Prelude.{◌≡◌, ◌<◌, ◌-◌, ◌^◌, IfOk, None, length};
+ghost use Rattle.std.specs.Prelude.{◌≡◌, ◌<◌, ◌≤◌, ◌-◌, ◌^◌, IfOk, None, length};
 ghost use Rattle.keeper_io.specs.Causes.{Rose};
-ghost use Rattle.spark_reader.specs.Reads.{Refuses as RefusesText};
+ghost use Rattle.spark_reader.specs.Reads.{Refuses as RefusesText, place_of};
 ghost use Rattle.first_form.specs.Form.{IsForm};
 ghost use Rattle.first_form.specs.Places.{first_unknown};
 ghost use Rattle.first_form.specs.Tree.{form_of};
@@ -20,7 +20,7 @@ use ada_values::{ByteList, NameText, Starved, WordList};
 use first_form::{FirstForm, FormFault, first_unknown, form_of};
 use grammar_table::SyntaxFault;
 use keeper_io::{KeepFault, Keeper};
-use spark_reader::{ReadRefusal, place_of, read};
+use spark_reader::{ReadRefusal, read};
 use std::alloc::Global;
 
 /// A file of so many bytes, or of more, is answered as one for which there is no memory.
@@ -69,10 +69,19 @@ fn code_of(refusal: ReadRefusal) -> &'static str
         ReadRefusal::Lex(LexFault::BadByte(_)) => "BadByte",
         ReadRefusal::Lex(LexFault::BadNumber(_)) => "BadNumber",
         ReadRefusal::Lex(LexFault::TooWide(_)) => "TooWide",
-        ReadRefusal::Syntax(SyntaxFault::Unexpected(_)) => "Unexpected",
-        ReadRefusal::Syntax(SyntaxFault::TooDeep(_)) => "TooDeep",
+        ReadRefusal::Syntax(SyntaxFault::Unexpected(_), _) => "Unexpected",
+        ReadRefusal::Syntax(SyntaxFault::TooDeep(_), _) => "TooDeep",
         _ => "",
     }
+}
+
+/// The place of a refusal of these bytes.
+fn place_in(bytes: &[u8], reason: ReadRefusal) -> u32
+    requires { RefusesText bytes.now reason }
+    ensures place { result ≡ place_of bytes.now reason }
+    ensures within { result ≤ length bytes.now }
+{
+    reason.place()
 }
 
 /// The answer to bytes that aren't read.
@@ -86,10 +95,7 @@ fn answer_refusal(
     requires refused { RefusesText bytes.now reason }
     ensures { IfOk result (λ answer. AnswersRefusal name.now bytes.now reason answer.status answer.text) }
 {
-    let Ok(at) = place_of(alloc, bytes, reason) else {
-        return Err(Starved);
-    };
-    let (line, column) = line_col(bytes, at);
+    let (line, column) = line_col(bytes, place_in(bytes, reason));
     refusal(alloc, name, line, column, code_of(reason))
 }
 

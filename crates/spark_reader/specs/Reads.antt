@@ -18,12 +18,6 @@ use Rattle.spark_reader.specs.declared.refusal.ReadRefusal.TheVariants.{Lex, Syn
 abbrev pub Reads : List ℕ → SourceUnit → Type 0
 Reads text u = (ts : List Token) × (d : List ℕ) × (tokens_in text ≡ Ok ts) × Derives productions (terminals ts) d × Spells u ts
 
--- the first fault of the text is this: that of its tokens, or where these have none that of the grammar
-abbrev pub Refuses : List ℕ → ReadRefusal → Type 0
-Refuses text (Lex f) = tokens_in text ≡ Err f
-Refuses text (Syntax f) = (ts : List Token) × (tokens_in text ≡ Ok ts) × IsFault productions (terminals ts) f
-Refuses text Starved = ⊥
-
 -- where a token begins, or the end where there is none
 abbrev pub begins_at : Option Token → ℕ → ℕ
 begins_at (Some t) end = t.span.from
@@ -44,6 +38,13 @@ token_of (syntax.Unexpected k) = k
 token_of (syntax.TooDeep k) = k
 token_of syntax.Starved = 0
 
+-- the first fault of the text is this: that of its tokens, or where these have none that of the grammar, with the place
+-- where its token begins
+abbrev pub Refuses : List ℕ → ReadRefusal → Type 0
+Refuses text (Lex f) = tokens_in text ≡ Err f
+Refuses text (Syntax f at) = (ts : List Token) × (tokens_in text ≡ Ok ts) × IsFault productions (terminals ts) f × (at ≡ token_place ts (token_of f) (length text))
+Refuses text Starved = ⊥
+
 abbrev pub place_among : Result (List Token) LexFault → ℕ → ℕ → ℕ
 place_among (Ok ts) k end = token_place ts k end
 place_among (Err f) k end = end
@@ -55,14 +56,20 @@ place_of_token text k = place_among (tokens_in text) k (length text)
 -- the place of a refusal, in bytes from 0
 abbrev pub place_of : List ℕ → ReadRefusal → ℕ
 place_of text (Lex f) = lex_place f
-place_of text (Syntax f) = place_of_token text (token_of f)
+place_of text (Syntax f at) = place_of_token text (token_of f)
 place_of text Starved = 0
+
+-- and that which a refusal tells
+abbrev pub told_place : ReadRefusal → ℕ
+told_place (Lex f) = lex_place f
+told_place (Syntax f at) = at
+told_place Starved = 0
 
 -- want of memory is one answer, wherever it came
 abbrev pub of_lex : LexFault → ReadRefusal
 of_lex lex.Starved = Starved
 of_lex f = Lex f
 
-abbrev pub of_syntax : SyntaxFault → ReadRefusal
-of_syntax syntax.Starved = Starved
-of_syntax f = Syntax f
+abbrev pub of_syntax : SyntaxFault → ℕ → ReadRefusal
+of_syntax syntax.Starved at = Starved
+of_syntax f at = Syntax f at

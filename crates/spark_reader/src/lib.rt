@@ -7,7 +7,7 @@ mod refusal;
 #[cfg(test)]
 mod tests;
 
-pub use grammar_table::Starved;
+pub use ada_text::Starved;
 pub use laws::one_answer;
-pub use reading::{place_of, read};
+pub use reading::read;
 pub use refusal::ReadRefusal;

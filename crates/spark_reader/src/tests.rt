@@ -25,7 +25,7 @@ fn read_text(alloc: Global, text: &str) -> Result<SourceUnit, ReadRefusal> {
 fn unexpected(rt: &impl Abort, alloc: Global, text: &str) -> Option<u32> {
     match read_text(alloc, text) {
         Ok(_) => None,
-        Err(ReadRefusal::Syntax(SyntaxFault::Unexpected(token))) => Some(token),
+        Err(ReadRefusal::Syntax(SyntaxFault::Unexpected(token), _)) => Some(token),
         Err(refusal) => {
             assert!(rt; false, "{refusal:?} at {text}");
             None
@@ -344,7 +344,7 @@ fn levels(rt: HostRuntime) -> Result<(), Fail> {
         assert!(&rt; read_text(rt.alloc(), text.as_str()).is_ok());
         let text = nested(rt.alloc(), 201, parts)?;
         match read_text(rt.alloc(), text.as_str()) {
-            Err(ReadRefusal::Syntax(SyntaxFault::TooDeep(k))) => assert_eq!(&rt; k, token),
+            Err(ReadRefusal::Syntax(SyntaxFault::TooDeep(k), _)) => assert_eq!(&rt; k, token),
             _ => assert!(&rt; false),
         }
     }

@@ -1,6 +1,7 @@
-use Rattle.std.proofs.Common.{List, ℕ, sym, ap, ◌∙◌, length}
+use Rattle.std.proofs.Common.{List, ℕ, refl, sym, ap, ◌∙◌, length}
 use Rattle.ada_text.specs.declared.token.Token.{Token}
 use Rattle.grammar_table.specs.Answers.{start}
+use Rattle.grammar_table.specs.Productions.{productions}
 use Rattle.ada_tree.specs.Moves.{woven}
 use Rattle.ada_tree.specs.Trees.{parts_of}
 use Rattle.ada_tree.proofs.Derived.{spells_made, takes_all}
@@ -8,11 +9,11 @@ use Rattle.ada_tree.proofs.building.build.Goals as goal
 
 pub parts_of-requires : goal.parts_of-requires
 parts_of-requires c =
-    takes_all c.rows.result.now c.args.derivation.now.productions c.args.tokens.now c.in_ok-moves.moves c.requires (c.rows.ensures.rows ∙ c.rows.ensures.productions) (c.in_ok-moves.ensures ∙ ap (λ (d : List ℕ). woven c.rows.result.now d start) c.as_slice.ensures)
+    takes_all productions c.args.derivation.now.productions c.args.tokens.now c.in_ok-moves.moves c.requires refl (c.in_ok-moves.ensures ∙ ap (λ (d : List ℕ). woven productions d start) c.as_slice.ensures)
     ∙ ap length (sym c.as_slice-2.ensures)
 
 pub returns : goal.returns
 returns c =
-    spells_made c.rows.result.now c.args.derivation.now.productions c.args.tokens.now c.in_ok-moves.moves c.in_ok-parts.parts c.source_unit.result c.requires (c.rows.ensures.rows ∙ c.rows.ensures.productions) (c.in_ok-moves.ensures ∙ ap (λ (d : List ℕ). woven c.rows.result.now d start) c.as_slice.ensures)
+    spells_made productions c.args.derivation.now.productions c.args.tokens.now c.in_ok-moves.moves c.in_ok-parts.parts c.source_unit.result c.requires refl (c.in_ok-moves.ensures ∙ ap (λ (d : List ℕ). woven productions d start) c.as_slice.ensures)
     (c.in_ok-parts.ensures ∙ ap (λ (ts : List Token). parts_of c.in_ok-moves.moves ts) c.as_slice-2.ensures)
     c.source_unit.ensures.value
