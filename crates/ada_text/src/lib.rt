@@ -15,6 +15,3 @@ pub use lex::tokens;
 pub use places::line_col;
 pub use reserved::Reserved;
 pub use token::{LexFault, Span, Starved, Token, TokenKind, TokenList};
-
-#[cfg(test)]
-mod tests;

@@ -3,8 +3,10 @@
 
 mod input;
 mod shown;
+mod tables;
 mod words;
 
 pub use input::cases;
 pub use shown::push_shown;
+pub use tables::named;
 pub use words::{LineFault, WordList, words_of};

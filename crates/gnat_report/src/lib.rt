@@ -10,6 +10,3 @@ pub use laws::{
 };
 pub use rows::{Row, RowList, RowStatus};
 pub use text::{push_place, report_text};
-
-#[cfg(test)]
-mod tests;

@@ -15,6 +15,3 @@ pub use answers::{Derivation, NumberList, Starved, SyntaxFault};
 pub use grammar::{Grammar, spark_grammar};
 pub use reading::{derive, one_answer};
 pub use symbols::{Construct, Effect, Nonterminal, Symbol, Terminal};
-
-#[cfg(test)]
-mod tests;

@@ -85,11 +85,7 @@ fn read_step<F: Read>(
 }
 
 /// Reads all that is left, if that is at most `most` bytes. More are a failure.
-pub(crate) fn read_whole<F: Read>(
-    alloc: Global,
-    file: &mut F,
-    most: usize,
-) -> Result<Vec<u8>, KeepFault>
+pub fn read_whole<F: Read>(alloc: Global, file: &mut F, most: usize) -> Result<Vec<u8>, KeepFault>
     ensures whole { IfOk result (λ bytes. IfSome (F.remaining file.old) (λ left. bytes.items ≡ left)) }
     ensures limit { IfOk result (λ bytes. vec_len bytes ≤ most) }
 {

@@ -9,12 +9,10 @@ mod list_sink;
 mod map_keeper;
 mod out_sink;
 mod sink;
-#[cfg(test)]
-mod tests;
 
 pub use entry::{Entry, EntryList};
 pub use failing_calls::CallList;
-pub use file_keeper::FileKeeper;
+pub use file_keeper::{FileKeeper, read_whole};
 pub use keeper::{KeepFault, Keeper};
 pub use list_sink::ListSink;
 pub use map_keeper::MapKeeper;

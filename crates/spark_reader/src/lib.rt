@@ -4,8 +4,6 @@
 mod laws;
 mod reading;
 mod refusal;
-#[cfg(test)]
-mod tests;
 
 pub use ada_text::Starved;
 pub use laws::one_answer;

@@ -1,0 +1,85 @@
+//! Cases of what is proved and told of a file: forms, rows, reports, keepers and sinks, and whole runs.
+//!
+//! A case is a line of words, of which the first is its kind, by `case_lines::words_of`, and its answer is a line. An empty
+//! line, and one that begins with `#`, is its own answer. Answers are written through an `OutSink`. Cases come from standard
+//! input, or from the file that the program's only word names. A word that holds several is split by the same rules. These are
+//! the kinds:
+//!
+//! - `limits NAME PARAMS ASSERTIONS`: whether that is a form, and the line and the column of its first unknown name. An
+//!   assertion is four words `LINE LEFT RELATION RIGHT`, with its pragma in column 4 and its operands in columns 20 and 30.
+//! - `position NAME PARAMS`: the number from 0 of the parameter of this name.
+//! - `rows NAME PARAMS ASSERTIONS`: the site of each row of that form, and whether it is proved.
+//! - `report ROWS`: the text of the report. A row is five words `FILE LINE COLUMN KIND STATUS`.
+//! - `keeper NAME BYTES FAILS STEPS`: what a keeper of one entry answers to steps, where the calls of these numbers fail, counted
+//!   from 1; how many calls were made; and the entries in the end. A step is `NAME BYTES` to put, or `NAME ?` to get.
+//! - `files STEPS`: what the keeper of real files answers to steps.
+//! - `whole BYTES MOST`: what is read of a file of these bytes where it may have at most so many.
+//! - `sink BYTES FAILS MOST`: whether these bytes are written to a sink, of which one call takes at most so many; what it holds
+//!   then; and how many calls were made.
+//! - `run WORDS FILE TEXT KEEPER_FAILS SINK_FAILS MOST`: the status and the output of a run of the program on the words of its
+//!   command line, with one file.
+#![tactic(auto)]
+
+mod fault;
+mod forms;
+mod keepers;
+mod kind;
+mod reports;
+mod runs;
+mod shown;
+
+use case_lines::words_of;
+use fault::CaseFault;
+use keeper_io::{OutSink, write_all};
+use kind::push_answer;
+use std::alloc::{AllocError, Global};
+use std::process::ExitCode;
+use std::rt::Files;
+
+/// Adds the answer to a line.
+fn push_line<R: Files>(
+    rt: &R,
+    alloc: Global,
+    out: &mut String,
+    line: &str,
+) -> Result<(), CaseFault> {
+    if line.is_empty() || line.as_bytes()[0] == b'#' {
+        return Ok(out.push_str(line)?);
+    }
+    let words = words_of(alloc, line.as_bytes())?;
+    push_answer(rt, alloc, out, words.as_slice())
+}
+
+/// Adds what stands in place of an answer.
+fn push_fault(out: &mut String, fault: CaseFault) -> Result<(), AllocError> {
+    match fault {
+        CaseFault::BadCase => out.push_str("no such case"),
+        CaseFault::Starved => out.push_str("no memory"),
+    }
+}
+
+/// The answer to a line, with its line feed.
+fn answer<R: Files>(rt: &R, alloc: Global, line: &str) -> Result<String, AllocError> {
+    let mut out = String::new(alloc);
+    if let Err(fault) = push_line(rt, alloc, &mut out, line) {
+        push_fault(&mut out, fault)?;
+    }
+    out.push('\n')?;
+    Ok(out)
+}
+
+fn main(rt: HostRuntime) -> ExitCode {
+    let Ok(cases) = case_lines::cases(&rt) else {
+        return ExitCode::FAILURE;
+    };
+    let mut out = OutSink::new(&rt);
+    for line in cases.lines() {
+        let Ok(answer) = answer(&rt, rt.alloc(), line) else {
+            return ExitCode::FAILURE;
+        };
+        if write_all(&mut out, answer.as_str().as_bytes()).is_err() {
+            return ExitCode::FAILURE;
+        }
+    }
+    ExitCode::SUCCESS
+}
