@@ -2,3 +2,4 @@ pub mod Causes
 pub mod Doubles
 pub mod Maps
 pub mod Pieces
+pub mod Decisions

@@ -1,8 +1,11 @@
 //! Standard output as a sink.
-ghost use Rattle.std.specs.Prelude.{◌≡◌, None};
+ghost use Rattle.std.specs.Prelude.{◌≡◌, IfOk, IfErr, None};
+ghost use Rattle.std.specs.IoError.{error_kind};
+ghost use Rattle.keeper_io.specs.Decisions.{decision_on_count, EitherWay};
 ghost use Rattle.keeper_io.specs.Pieces.{TakesSome};
 
 use crate::sink::{Failed, Sink};
+use std::io;
 use std::io::ErrorKind;
 
 /// The standard output of the runtime `R`. It doesn't tell what was written.
@@ -24,16 +27,40 @@ impl<R: Print> OutSink<R> {
     }
 }
 
-/// Writes once, and again while that is interrupted. No bytes taken of some that were given is a failure.
+/// What is to be done after a write.
+#[derive(Clone, Copy, Debug, PartialEq, Eq)]
+enum Decision {
+    /// So many bytes were taken.
+    Take(usize),
+    /// The write was interrupted, and is to be tried again.
+    TryAgain,
+    /// The write failed.
+    Fail,
+}
+
+/// The decision on the result of a write, where so many bytes were given. No bytes taken of some is a failure, and so is each
+/// error but an interruption.
+fn decision_on(written: io::Result<usize>, given: usize) -> Decision
+    ensures count { IfOk written (λ n. result ≡ decision_on_count n given) }
+    ensures error { IfErr written (λ e. EitherWay (error_kind e ≡ ErrorKind.Interrupted) (result ≡ Decision.TryAgain) (result ≡ Decision.Fail)) }
+{
+    match written {
+        Ok(0) if 0 < given => Decision::Fail,
+        Ok(count) => Decision::Take(count),
+        Err(error) if error.kind() == ErrorKind::Interrupted => Decision::TryAgain,
+        Err(_) => Decision::Fail,
+    }
+}
+
+/// Writes once, and again while that is interrupted.
 fn write_some<R: Print>(to: &R, piece: &[u8]) -> Result<usize, Failed>
     ensures { TakesSome result piece.now }
 {
     for _ in 0..MOST_TRIES {
-        match to.write_some(piece) {
-            Ok(0) if !piece.is_empty() => return Err(Failed),
-            Ok(count) => return Ok(count),
-            Err(error) if error.kind() == ErrorKind::Interrupted => {}
-            Err(_) => return Err(Failed),
+        match decision_on(to.write_some(piece), piece.len()) {
+            Decision::Take(count) => return Ok(count),
+            Decision::TryAgain => {}
+            Decision::Fail => return Err(Failed),
         }
     }
     Err(Failed)
