@@ -21,6 +21,7 @@ pub fn values_of_parameters()
     ensures too_few { inputs_fit (with_globals_of [] (in_one 1)) (idle (in_one 1)) [] [] ≡ false }
     ensures too_many { inputs_fit (with_globals_of [] (in_one 1)) (idle (in_one 1)) (int 0 ∷ int 0 ∷ []) [] ≡ false }
     ensures in_out { inputs_fit (with_globals_of [] (formal_of mode.InOut 1 ∷ [])) (idle (formal_of mode.InOut 1 ∷ [])) (int 11 ∷ []) [] ≡ false }
+    ensures in_out_last { inputs_fit (with_globals_of [] (formal_of mode.InOut 1 ∷ [])) (idle (formal_of mode.InOut 1 ∷ [])) (int 10 ∷ []) [] ≡ true }
     ensures out_is_passed_over { inputs_fit (with_globals_of [] (formal_of mode.Out 1 ∷ formal_of mode.In 2 ∷ [])) (idle (formal_of mode.Out 1 ∷ formal_of mode.In 2 ∷ [])) (truth true ∷ []) [] ≡ true }
     ensures out_has_none { inputs_fit (with_globals_of [] (formal_of mode.Out 1 ∷ [])) (idle (formal_of mode.Out 1 ∷ [])) (int 0 ∷ []) [] ≡ false }
 {}
@@ -33,17 +34,23 @@ pub fn values_of_arrays_and_records()
     ensures pair_elsewhere { inputs_fit (with_globals_of [] (in_one 3)) (idle (in_one 3)) (array (pos 2) (pos 3) (vals_of (int 1 ∷ int 1 ∷ [])) ∷ []) [] ≡ false }
     ensures pair_too_short { inputs_fit (with_globals_of [] (in_one 3)) (idle (in_one 3)) (array (pos 1) (pos 2) (vals_of (int 1 ∷ [])) ∷ []) [] ≡ false }
     ensures any_bounds { inputs_fit (with_globals_of [] (in_one 4)) (idle (in_one 4)) (array (pos 9) (pos 10) (vals_of (truth true ∷ truth false ∷ [])) ∷ []) [] ≡ true }
+    ensures first_bounds { inputs_fit (with_globals_of [] (in_one 4)) (idle (in_one 4)) (array (negsuc 4) (negsuc 3) (vals_of (truth true ∷ truth false ∷ [])) ∷ []) [] ≡ true }
+    ensures before_the_index { inputs_fit (with_globals_of [] (in_one 4)) (idle (in_one 4)) (array (negsuc 5) (negsuc 4) (vals_of (truth true ∷ truth false ∷ [])) ∷ []) [] ≡ false }
     ensures past_the_index { inputs_fit (with_globals_of [] (in_one 4)) (idle (in_one 4)) (array (pos 10) (pos 11) (vals_of (truth true ∷ truth false ∷ [])) ∷ []) [] ≡ false }
     ensures null_far_away { inputs_fit (with_globals_of [] (in_one 4)) (idle (in_one 4)) (array (pos 127) (negsuc 127) (vals_of []) ∷ []) [] ≡ true }
     ensures null_past_base { inputs_fit (with_globals_of [] (in_one 4)) (idle (in_one 4)) (array (pos 128) (pos 0) (vals_of []) ∷ []) [] ≡ false }
+    ensures null_before_base { inputs_fit (with_globals_of [] (in_one 4)) (idle (in_one 4)) (array (pos 0) (negsuc 128) (vals_of []) ∷ []) [] ≡ false }
     ensures components { inputs_fit (with_globals_of [] (in_one 5)) (idle (in_one 5)) (record_of (vals_of (int 10 ∷ truth true ∷ [])) ∷ []) [] ≡ true }
     ensures component_past { inputs_fit (with_globals_of [] (in_one 5)) (idle (in_one 5)) (record_of (vals_of (int 11 ∷ truth true ∷ [])) ∷ []) [] ≡ false }
+    ensures component_before { inputs_fit (with_globals_of [] (in_one 5)) (idle (in_one 5)) (record_of (vals_of (number (negsuc 5) ∷ truth true ∷ [])) ∷ []) [] ≡ false }
     ensures component_missing { inputs_fit (with_globals_of [] (in_one 5)) (idle (in_one 5)) (record_of (vals_of (int 1 ∷ [])) ∷ []) [] ≡ false }
 {}
 
 /// A run starts with a value in its subtype for each global.
 pub fn values_of_globals()
-    ensures one { inputs_fit (with_globals_of (1 ∷ 2 ∷ []) []) (idle []) [] (int 10 ∷ truth true ∷ []) ≡ true }
+    ensures last { inputs_fit (with_globals_of (1 ∷ 2 ∷ []) []) (idle []) [] (int 10 ∷ truth true ∷ []) ≡ true }
+    ensures first { inputs_fit (with_globals_of (1 ∷ 2 ∷ []) []) (idle []) [] (number (negsuc 4) ∷ truth true ∷ []) ≡ true }
+    ensures below { inputs_fit (with_globals_of (1 ∷ 2 ∷ []) []) (idle []) [] (number (negsuc 5) ∷ truth true ∷ []) ≡ false }
     ensures outside { inputs_fit (with_globals_of (1 ∷ 2 ∷ []) []) (idle []) [] (int 11 ∷ truth true ∷ []) ≡ false }
     ensures second_outside { inputs_fit (with_globals_of (1 ∷ 2 ∷ []) []) (idle []) [] (int 1 ∷ int 1 ∷ []) ≡ false }
     ensures too_few { inputs_fit (with_globals_of (1 ∷ 2 ∷ []) []) (idle []) [] (int 10 ∷ []) ≡ false }
