@@ -80,7 +80,7 @@ WRONG = [
     ("a record set in part counts as set", "Store.antt", "and_more _ _ = None", "and_more (Some v) None = Some (val v no_vals)\nand_more None o = o"),
     ("a component of a record within a record is never set", "Store.antt", "component_slot k (parts ss) = slot_at ss k", "component_slot k (parts ss) = full_if (whole (slot_at ss k))"),
     # targets and loops
-    ("a target in an array without fixed bounds counts from 1", "Targets.antt", "own_bounds (Some (array f l vs)) = Some (record { first = f; last = l })", "own_bounds (Some (array f l vs)) = Some (record { first = pos 1; last = l })"),
+    ("a target in an array without fixed bounds counts from 1", "Targets.antt", "own_bounds (Some (array f l vs)) = Some (record { first = f; last = l })", "own_bounds (Some (array f l vs)) = Some (record { first = pos 1; last = l })", "None, List, [], ◌∷◌}", "None, List, [], ◌∷◌, pos}"),
     ("the high bound of a for loop is evaluated first", "Running.antt", "bind (value_of calls l f n) (λ u m. bind (value_of calls h f m) (λ v j. number_of u", "bind (value_of calls h f n) (λ v m. bind (value_of calls l f m) (λ u j. number_of u"),
     ("an invariant drops the variant's numbers", "Running.antt", "holds_at calls (invariant_kind last) e f m (λ j. demanded calls rest last xs f j))", "holds_at calls (invariant_kind last) e f m (λ j. demanded calls rest last [] f j))"),
     ("only the first pragma of a group is checked", "Running.antt", "holds_at calls (invariant_kind last) e f m (λ j. demanded calls rest last xs f j))", "holds_at calls (invariant_kind last) e f m (λ j. gives xs j))"),
