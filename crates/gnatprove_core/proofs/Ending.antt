@@ -68,6 +68,13 @@ pub ends_whole : (told : Option Map) (words : List (List ℕ)) (s : Status) (tex
     → after ≡ append_known before text → Ends told words s before after
 ends_whole told words s text before after a e = written_ends told words s text before after (named_is told (file_of words) s text a) a e
 
+written_is : (told : Option Map) (words : List (List ℕ)) (s : Status) (text : List ℕ) → Answers told words s text → IsWritten s
+written_is told words s text a = named_is told (file_of words) s text a
+
+-- an answer has no status of a sink that failed
+pub not_cut : {P : Type 0} (told : Option Map) (words : List (List ℕ)) (s : Status) (text : List ℕ) → Answers told words s text → s ≡ status.WriteFault → P
+not_cut told words s text a e = absurd (subst IsWritten e (written_is told words s text a))
+
 -- bytes that are refused
 pub refusal_answer : {E : Type 0} (name bytes : List ℕ) (reason : ReadRefusal) (r : Result Answer E) → length bytes < 2 ^ 32 - 1
     → IfOk r (λ a. AnswersRefusal name bytes reason a.status a.text) → IfOk r (λ a. AnswersBytes name bytes a.status a.text)

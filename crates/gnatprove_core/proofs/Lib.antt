@@ -1,3 +1,4 @@
 pub mod Soundness
 pub mod Ending
 pub mod Complete
+pub mod Refusals

@@ -2,6 +2,7 @@
 use Rattle.std.specs.Prelude.{◌≡◌, ◌<◌, ◌-◌, ◌^◌, ℕ, Bool, true, false, ◌⊎◌, Option, Some, None, List, [], map, length, codes, if◌then◌else◌}
 use Rattle.std.specs.List.{list_all}
 use Rattle.std.specs.Io.KnownBytes.{append_known}
+use Rattle.keeper_io.specs.Causes.{Rose}
 use Rattle.keeper_io.specs.Maps.{Map, Holds}
 use Rattle.keeper_io.specs.Pieces.{AddsPart}
 use Rattle.ada_text.specs.declared.token.LexFault.{LexFault}
@@ -64,6 +65,20 @@ abbrev pub AnswersTree : List ℕ → Option FirstForm → Status → List ℕ �
 AnswersTree name None status text = Refuses name 1 1 (codes "NotBuilt") status text
 AnswersTree name (Some f) status text = AnswersForm name f (first_unknown f) status text
 
+-- a refusal that has a place, and is no want of memory
+abbrev pub IsLexTold : LexFault → Type 0
+IsLexTold lex.Starved = ⊥
+IsLexTold f = Unit {0}
+
+abbrev pub IsSyntaxTold : SyntaxFault → Type 0
+IsSyntaxTold syntax.Starved = ⊥
+IsSyntaxTold f = Unit {0}
+
+abbrev pub IsTold : ReadRefusal → Type 0
+IsTold (refusal.Lex f) = IsLexTold f
+IsTold (refusal.Syntax f at) = IsSyntaxTold f
+IsTold refusal.Starved = ⊥
+
 abbrev pub lex_code : LexFault → List ℕ
 lex_code (lex.BadByte at) = codes "BadByte"
 lex_code (lex.BadNumber at) = codes "BadNumber"
@@ -120,3 +135,9 @@ abbrev pub Ends : Option Map → List (List ℕ) → Status → Option (List ℕ
 Ends told words Starved before after = after ≡ before
 Ends told words WriteFault before after = (status : Status) × (text : List ℕ) × Answers told words status text × AddsPart before after text
 Ends told words status before after = (text : List ℕ) × Answers told words status text × (after ≡ append_known before text)
+
+-- What a run wrote whose answer was cut off by the sink: a first part of an answer, which is the line of a read fault only
+-- where the keeper's count of faults rose.
+abbrev pub IsCut : Option Map → List (List ℕ) → ℕ → ℕ → Option (List ℕ) → Option (List ℕ) → Type 0
+IsCut told words faults later before after =
+    (status : Status) × (text : List ℕ) × Answers told words status text × AddsPart before after text × (status ≡ ReadFault → Rose faults later)

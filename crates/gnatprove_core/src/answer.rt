@@ -8,7 +8,7 @@ ghost use Rattle.first_form.specs.Places.{first_unknown};
 ghost use Rattle.first_form.specs.Tree.{form_of};
 ghost use Rattle.gnatprove_core.specs.Texts.{read_fault_text};
 ghost use Rattle.gnatprove_core.specs.Words.{file_of as file_named};
-ghost use Rattle.gnatprove_core.specs.Answers.{AnswersForm, AnswersTree, AnswersRefusal, AnswersBytes, AnswersFile, Answers, Refuses, code_of};
+ghost use Rattle.gnatprove_core.specs.Answers.{AnswersForm, AnswersTree, AnswersRefusal, AnswersBytes, AnswersFile, Answers, IsTold, Refuses, code_of};
 
 use crate::report::report;
 use crate::status::Status;
@@ -61,8 +61,9 @@ fn answer_form(alloc: Global, name: &NameText, form: &FirstForm) -> Result<Answe
     }
 }
 
-/// The code of a refusal.
+/// The code of a refusal, which is no want of memory.
 fn code_of(refusal: ReadRefusal) -> &'static str
+    requires { IsTold refusal }
     ensures { result.now ≡ code_of refusal }
 {
     match refusal {
@@ -71,7 +72,9 @@ fn code_of(refusal: ReadRefusal) -> &'static str
         ReadRefusal::Lex(LexFault::TooWide(_)) => "TooWide",
         ReadRefusal::Syntax(SyntaxFault::Unexpected(_), _) => "Unexpected",
         ReadRefusal::Syntax(SyntaxFault::TooDeep(_), _) => "TooDeep",
-        _ => "",
+        ReadRefusal::Lex(LexFault::Starved)
+        | ReadRefusal::Syntax(SyntaxFault::Starved, _)
+        | ReadRefusal::Starved => unreachable!(),
     }
 }
 

@@ -3,7 +3,7 @@
 ghost use Rattle.std.specs.Prelude.{◌≡◌, None};
 ghost use Rattle.keeper_io.specs.Causes.{Rose};
 ghost use Rattle.gnatprove_core.specs.Statuses.{IsAnswer};
-ghost use Rattle.gnatprove_core.specs.Answers.{Ends};
+ghost use Rattle.gnatprove_core.specs.Answers.{Ends, IsCut};
 ghost use Rattle.gnatprove_core.specs.Sound.{IsComplete, IsSound};
 ghost use Rattle.gnatprove_core.specs.Words.{file_of};
 
@@ -30,6 +30,7 @@ pub fn run_alone<K: Keeper, S: Sink>(
     ensures complete { IsComplete (K.told files.old) words.now result }
 
     ensures read_fault { result ≡ Status.ReadFault → Rose (K.get_faults files.old) (K.get_faults files.new) }
+    ensures cut { result ≡ Status.WriteFault → IsCut (K.told files.old) words.now (K.get_faults files.old) (K.get_faults files.new) (S.written out.old) (S.written out.new) }
     ensures no_read_fault { IsAnswer result → K.get_faults files.new ≡ K.get_faults files.old }
     ensures write_fault { result ≡ Status.WriteFault → Rose (S.faults out.old) (S.faults out.new) }
     ensures no_write_fault { (result ≡ Status.WriteFault → ⊥) → S.faults out.new ≡ S.faults out.old }
