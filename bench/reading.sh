@@ -1,7 +1,8 @@
 #!/usr/bin/env bash
 # Times the built program on sources of 512 KiB and 1 MiB that it reads and doesn't prove, and prints the memory that it
-# takes for each token. It is no part of the gate. 1 MiB is to take at most 2.2 times as long as 512 KiB and less than a
-# second of one processor, in less than 400 bytes a token.
+# takes for each token; where GNAT is there, also the time in which GNAT checks the syntax of the same file, and how many
+# times as long ours is. It is no part of the gate. 1 MiB is to take at most 2.2 times as long as 512 KiB and at most 4 times
+# as long as GNAT, in less than 250 bytes a token.
 set -eu
 cd "$(dirname "$0")/.."
 program=$PWD/crates/gnatprove/out/gnatprove
@@ -20,24 +21,29 @@ write_file() {
     }' > "$folder/bench.adb" 2> "$folder/tokens"
 }
 
-# the least of five times of a processor in microseconds, and the greatest memory in bytes
+# the least of five times of a processor in microseconds, and the greatest memory in bytes, of a command with this status
 measure() {
     python3 -c '
 import os, subprocess, sys
 times, memory = [], 0
 for _ in range(5):
-    child = subprocess.Popen([sys.argv[1], "prove", "bench.adb"], stdout=open("out", "wb"))
+    child = subprocess.Popen(sys.argv[2:], stdout=open("out", "wb"))
     _, status, used = os.wait4(child.pid, 0)
-    if os.waitstatus_to_exitcode(status) != 2:
-        sys.exit("the program did not refuse the file")
+    if os.waitstatus_to_exitcode(status) != int(sys.argv[1]):
+        sys.exit("the file was not answered as it is to be: " + " ".join(sys.argv[2:]))
     times.append(used.ru_utime + used.ru_stime)
     memory = max(memory, used.ru_maxrss * 1024)
-print(int(min(times) * 1e6), memory)' "$program"
+print(int(min(times) * 1e6), memory)' "$@"
 }
 
+cd "$folder"
 for size in 524288 1048576; do
     write_file "$size"
-    read -r took memory < <(cd "$folder" && measure)
-    tokens=$(cat "$folder/tokens")
-    echo "$(stat -c %s "$folder/bench.adb") bytes, $tokens tokens: $took microseconds, $((memory / tokens)) bytes of memory a token; $(cat "$folder/out")"
+    read -r took memory < <(measure 2 "$program" prove bench.adb)
+    tokens=$(cat tokens)
+    echo "$(stat -c %s bench.adb) bytes, $tokens tokens: $took microseconds, $((memory / tokens)) bytes of memory a token; $(cat out)"
+    if command -v gnatmake > /dev/null; then
+        read -r theirs memory < <(measure 0 gcc -c -gnats bench.adb)
+        echo "GNAT: $theirs microseconds; ours are $(awk "BEGIN { printf \"%.1f\", $took / $theirs }") times that"
+    fi
 done

@@ -1,3 +1,4 @@
 pub mod Capped
 pub mod Reading
 pub mod Letters
+pub mod Marks

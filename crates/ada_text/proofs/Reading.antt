@@ -1,6 +1,6 @@
 -- The tokens of what is left, after an item.
 use Rattle.std.proofs.Common.{◌≡◌, ℕ, zero, suc, ◌+◌, ◌-◌, ◌<◌, ◌≤◌, Bool, true, false, List, [], ◌∷◌, ◌++◌, length, drop, Option, Some, None, Result, Ok, Err, refl, sym, ap, ◌∙◌, subst, append_assoc, append-nil, length-drop, All, arith}
-use Rattle.std.specs.Prelude.{nat_eq, nat_lt, IfSome, ◌&&◌, if◌then◌else◌}
+use Rattle.std.specs.Prelude.{nat_eq, nat_lt, slice_index, IfSome, ◌&&◌, if◌then◌else◌}
 use Rattle.std.specs.List.{starts_with, list_all}
 use Rattle.ada_text.specs.declared.delimiters.Delimiter.{Delimiter}
 use Rattle.ada_text.specs.declared.item.Item.{Item}
@@ -13,7 +13,8 @@ use Rattle.ada_text.specs.declared.token.LexFault.{LexFault}
 use Rattle.std.proofs.lemmas.Bool.{false≢true}
 use Rattle.std.proofs.lemmas.Bool.Decides.{nat_tests}
 use Rattle.ada_text.specs.Delimiters.{mark_among, mark_at, delimiters}
-use Rattle.ada_text.specs.Tokens.{item_at, StandsIn, AreInOrder, spelled, tokens_of, before, after_item, tokens_from}
+use Rattle.ada_text.specs.Bytes.{is_blank}
+use Rattle.ada_text.specs.Tokens.{gap, item_at, StandsIn, AreInOrder, spelled, tokens_of, before, after_item, tokens_from}
 
 -- the bytes that are left of an item are passed over
 left-drop : (n at : ℕ) (bs : List ℕ) → n ≤ length bs → tokens_from at n bs ≡ tokens_from (at + n) 0 (drop n bs)
@@ -58,6 +59,27 @@ turn ts at i text rest same e h within =
     sym (ap (λ l. before ts (tokens_from at 0 l)) (sym same)
     ∙ ap (before ts) (item_more at i rest (sym e) h within ∙ ap (λ l. before (tokens_of at i) (tokens_from (at + i.length) 0 l)) after)
     ∙ before-before ts (tokens_of at i) (tokens_from (at + i.length) 0 (drop (at + i.length) text)))
+
+-- the bytes from a place on begin with the byte there
+index_drop : (at : ℕ) (bs : List ℕ) → slice_index (drop at bs) 0 ≡ slice_index bs at
+index_drop zero bs = refl
+index_drop (suc n) [] = refl
+index_drop (suc n) (b ∷ bs) = index_drop n bs
+
+if_true : {A : Type 0} (t : Bool) (x y : A) → t ≡ true → (if t then x else y) ≡ x
+if_true true x y e = refl
+if_true false x y e = absurd (false≢true e)
+
+blank_item : (at : ℕ) (bs : List ℕ) → is_blank (slice_index bs 0) ≡ true → item_at at bs ≡ Ok (gap 1)
+unfolding item_at
+blank_item at bs e = if_true (is_blank (slice_index bs 0)) (Ok (gap 1)) _ e
+
+-- a turn over a byte of white space
+pub blank_turn : (ts : List Token) (at : ℕ) (text : List ℕ) → at < length text → is_blank (slice_index text at) ≡ true → before ts (tokens_from (at + 1) 0 (drop (at + 1) text)) ≡ before ts (tokens_from at 0 (drop at text))
+blank_turn ts at text h b =
+    let e : Ok (gap 1) ≡ item_at at (drop at text) = sym (blank_item at (drop at text) (ap is_blank (index_drop at text) ∙ b)) in
+    let some : 1 ≤ length (drop at text) = omega (arith, length-drop at text) in
+    ap (λ l. before l (tokens_from (at + 1) 0 (drop (at + 1) text))) (sym (append-nil ts)) ∙ turn ts at (gap 1) text (drop at text) refl e (omega arith) some
 
 pub turn_within : (at n : ℕ) (text rest : List ℕ) → rest ≡ drop at text → at < length text → n ≤ length rest → at + n ≤ length text
 turn_within at n text rest same more within = omega (arith, ap (length {A = ℕ}) same, length-drop at text)

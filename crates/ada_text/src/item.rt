@@ -1,14 +1,15 @@
 //! What stands at the front of a text.
 
-ghost use Rattle.std.specs.Prelude.{◌≡◌, ◌≤◌, ◌<◌, IfOk, IfSome, true, length, map, slice_index};
+ghost use Rattle.std.specs.Prelude.{◌≡◌, ◌≤◌, ◌<◌, IfOk, IfSome, true, codes, length, map, nat_eq, slice_index};
+ghost use Rattle.std.specs.List.{starts_with};
 ghost use Rattle.std.specs.Char.{is_ascii_alphabetic};
 ghost use Rattle.std.specs.Str.{str_eq_ignore_ascii_case};
-ghost use Rattle.ada_text.specs.Delimiters.{mark_among, mark_at};
+ghost use Rattle.ada_text.specs.Delimiters.{mark_at, mark_by, pair_among, single_among};
 ghost use Rattle.ada_text.specs.Tokens.{item_at, word_at};
 ghost use Rattle.ada_text.specs.Words.{letter_of, row_of, word_among, word_kind, words_of};
 
 use crate::bytes::{byte_at, is_blank, line_length, numeral_length};
-use crate::delimiters::{DELIMITERS, Delimiter};
+use crate::delimiters::{Delimiter, PAIRS, SINGLES};
 use crate::number::number_at;
 use crate::reserved::{Reserved, WORDS_BY_LETTER};
 use crate::token::{LexFault, TokenKind};
@@ -90,30 +91,67 @@ fn word_at(bytes: &[u8]) -> Item
     }
 }
 
-/// The first delimiter of a table whose text stands at the front.
-fn mark_among(mut table: &[(&[u8], Delimiter)], bytes: &[u8]) -> Option<Item>
-    ensures value { result ≡ mark_among (map (λ m. (m.0.now, m.1)) table.entry.now) bytes.now }
-    ensures within { IfSome result (λ i. i.length ≤ length bytes.now) }
+/// The first delimiter of a table of pairs of bytes that these are.
+fn pair_among(mut table: &[(u8, u8, Delimiter)], first: u8, second: u8) -> Option<Delimiter>
+    ensures { result ≡ pair_among table.entry.now first second }
 {
     while let [entry, rest @ ..] = table {
-        if bytes.starts_with(entry.0) {
-            return Some(Item {
-                kind: Some(TokenKind::Mark(entry.1)),
-                length: entry.0.len(),
-            });
+        if entry.0 == first && entry.1 == second {
+            return Some(entry.2);
         }
         table = rest;
     }
     None
 }
 
+/// The first delimiter of a table of bytes that this is.
+fn single_among(mut table: &[(u8, Delimiter)], byte: u8) -> Option<Delimiter>
+    ensures { result ≡ single_among table.entry.now byte }
+{
+    while let [entry, rest @ ..] = table {
+        if entry.0 == byte {
+            return Some(entry.1);
+        }
+        table = rest;
+    }
+    None
+}
+
+/// The delimiter that begins with these bytes.
+#[tactic(auto, unfolding(crate::specs::Delimiters::mark_by))]
+fn mark_by(first: u8, second: u8) -> Option<Item>
+    ensures { result ≡ mark_by first second }
+{
+    if let Some(mark) = pair_among(&PAIRS, first, second) {
+        return Some(Item {
+            kind: Some(TokenKind::Mark(mark)),
+            length: 2,
+        });
+    }
+    match single_among(&SINGLES, first) {
+        Some(mark) => Some(Item {
+            kind: Some(TokenKind::Mark(mark)),
+            length: 1,
+        }),
+        None => None,
+    }
+}
+
 /// The delimiter at the front.
-#[tactic(auto, unfolding(crate::specs::Delimiters::mark_at, crate::specs::Delimiters::delimiters))]
 fn mark_at(bytes: &[u8]) -> Option<Item>
     ensures value { result ≡ mark_at bytes.now }
     ensures within { IfSome result (λ i. (1 ≤ i.length) × (i.length ≤ length bytes.now)) }
 {
-    mark_among(&DELIMITERS, bytes)
+    mark_by(byte_at(bytes, 0), byte_at(bytes, 1))
+}
+
+/// Whether a comment begins at the front.
+#[tactic(auto, using(crate::proofs::Marks::starts_two))]
+fn is_comment(bytes: &[u8]) -> bool
+    ensures value { result ≡ starts_with nat_eq bytes.now (codes "--") }
+    ensures within { result ≡ true → 2 ≤ length bytes.now }
+{
+    byte_at(bytes, 0) == b'-' && byte_at(bytes, 1) == b'-'
 }
 
 /// What stands at the front, which is the place `at` of the text.
@@ -129,7 +167,7 @@ pub fn item_at(at: u32, bytes: &[u8]) -> Result<Item, LexFault>
             kind: None,
             length: 1,
         })
-    } else if bytes.starts_with(b"--") {
+    } else if is_comment(bytes) {
         Ok(Item {
             kind: None,
             length: 2 + line_length(&bytes[2..]),

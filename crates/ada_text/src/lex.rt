@@ -3,7 +3,7 @@
 ghost use Rattle.std.specs.Prelude.{◌≡◌, ◌≢◌, ◌<◌, ◌^◌, All, Err, Ok, IfErr, IfOk, length};
 ghost use Rattle.ada_text.specs.Tokens.{AreInOrder, StandsIn, tokens_in};
 
-use crate::bytes::skipped;
+use crate::bytes::{is_blank, skipped};
 use crate::item::item_at;
 use crate::token::{LexFault, Span, Token, TokenList};
 use std::alloc::Global;
@@ -20,6 +20,10 @@ pub fn tokens(alloc: Global, text: &[u8]) -> Result<TokenList, LexFault>
     let mut found = TokenList::new(alloc);
     let mut at = skipped(text);
     while at < text.len() {
+        if is_blank(text[at]) {
+            at += 1;
+            continue;
+        }
         let item = item_at(at as u32, &text[at..])?;
         let end = at + item.length;
         if let Some(kind) = item.kind {

@@ -3,7 +3,7 @@ use Rattle.std.proofs.lemmas.List.{take_rest}
 use Rattle.std.proofs.lemmas.List.Elements.{All-push}
 use Rattle.ada_text.specs.declared.token.Token.{Token}
 use Rattle.ada_text.specs.Tokens.{AreInOrder, StandsIn, before, tokens_from, tokens_in, tokens_of}
-use Rattle.ada_text.proofs.Reading.{before-nil, turn, turn_within, one_token, no_token, order_more, order_push, stands, none_stand}
+use Rattle.ada_text.proofs.Reading.{before-nil, blank_turn, turn, turn_within, one_token, no_token, order_more, order_push, stands, none_stand}
 use Rattle.ada_text.proofs.lex.tokens.Goals as goal
 
 pub loop-at-init : goal.loop-at-init
@@ -29,6 +29,14 @@ loop-at-preserved-in_ok-push c =
       subst (λ (l : List Token). AreInOrder 0 l (c.loop-at.at + i.length)) (sym c.in_ok-push.ensures.ok) (order_push 0 c.loop-at.found c.in-Some.kind c.loop-at.at i.length c.loop-at.invariant.2 c.in_ok-item.ensures.within.0),
       subst (λ (l : List Token). All (StandsIn c.args.text.now) l) (sym c.in_ok-push.ensures.ok) (All-push (StandsIn c.args.text.now) c.loop-at.found _ c.loop-at.invariant.3 (stands c.args.text.now _ c.loop-at.at i c.in-Some.kind here c.in_ok-item.ensures.value c.in-Some.is)),
     )
+
+pub loop-at-preserved-then-is_blank : goal.loop-at-preserved-then-is_blank
+loop-at-preserved-then-is_blank c = (
+  blank_turn c.loop-at.found c.loop-at.at c.args.text.now c.loop-at-test.true (sym c.is_blank.ensures ∙ c.if-is_blank.true) ∙ c.loop-at.invariant.0,
+  omega arith,
+  order_more 0 c.loop-at.found c.loop-at.at (c.loop-at.at + 1) c.loop-at.invariant.2 (omega arith),
+  c.loop-at.invariant.3,
+)
 
 pub loop-at-preserved : goal.loop-at-preserved
 loop-at-preserved c =
