@@ -1,6 +1,6 @@
 -- How many parts each rule takes.
 use Rattle.std.proofs.Common.{◌≡◌, ◌≤◌, ◌+◌, refl, ℕ, zero, suc, List, [], ◌∷◌, length, arith}
-use Rattle.ada_tree.specs.declared.part.Part.{Part}
+use Rattle.tree_parts.specs.declared.parts.Part.{Part}
 use Rattle.ada_tree.specs.declared.rules.Rule.{Rule}
 use Rattle.ada_tree.specs.declared.rules.Rule.TheVariants as rule
 use Rattle.ada_tree.specs.declared.rules.UnitRule.{UnitRule}
@@ -28,7 +28,7 @@ use Rattle.ada_tree.specs.Subprograms.{subprogram_rule}
 use Rattle.ada_tree.specs.Types.{type_rule}
 use Rattle.ada_tree.specs.Units.{unit_rule}
 use Rattle.ada_tree.specs.Made.{made}
-use Rattle.ada_tree.specs.Parts.{after, first}
+use Rattle.tree_parts.specs.Parts.{after, first}
 
 abbrev pub unit_arity : UnitRule → ℕ
 unit_arity unit.File = 2

@@ -8,7 +8,7 @@ use Rattle.grammar_table.specs.declared.symbols.Nonterminal.TheVariants as non
 use Rattle.grammar_table.specs.declared.symbols.Terminal.TheVariants as terminal
 use Rattle.ada_tree.specs.declared.rules.ItemRule.TheVariants as ItemRule'
 use Rattle.ada_tree.specs.declared.rules.Rule.TheVariants as rule
-use Rattle.ada_tree.specs.Parts.{◌!◌, arg_tail_of, expr_of, token_of}
+use Rattle.tree_parts.specs.Parts.{◌!◌, arg_tail_of, expr_of, token_of}
 use Rattle.ada_tree.proofs.Joins.{branch5, flat2, flat7}
 use Rattle.ada_tree.proofs.Phrases.{argument_words, quantifier_text}
 use Rattle.ada_tree.proofs.Texts.{Law, text, token_text}

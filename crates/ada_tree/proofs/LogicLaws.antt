@@ -9,7 +9,7 @@ use Rattle.grammar_table.specs.declared.symbols.Nonterminal.TheVariants as non
 use Rattle.grammar_table.specs.declared.symbols.Terminal.TheVariants as terminal
 use Rattle.ada_tree.specs.declared.rules.ExpressionRule.TheVariants as ExpressionRule'
 use Rattle.ada_tree.specs.declared.rules.Rule.TheVariants as rule
-use Rattle.ada_tree.specs.Parts.{◌!◌, expr_of, logic_tail_of, operations_of, relation_tail_of, token_of}
+use Rattle.tree_parts.specs.Parts.{◌!◌, expr_of, logic_tail_of, operations_of, relation_tail_of, token_of}
 use Rattle.ada_tree.proofs.Joins.{flat2}
 use Rattle.ada_tree.proofs.Phrases.{and_text, grouped_words, operator_text, or_text, related_words, short_text}
 use Rattle.ada_tree.proofs.Texts.{Law, operations, text}

@@ -12,7 +12,7 @@ use Rattle.grammar_table.specs.declared.symbols.Terminal.TheVariants as terminal
 use Rattle.ada_tree.specs.declared.rules.ExpressionRule.TheVariants as ExpressionRule'
 use Rattle.ada_tree.specs.declared.rules.NameRule.TheVariants as NameRule'
 use Rattle.ada_tree.specs.declared.rules.Rule.TheVariants as rule
-use Rattle.ada_tree.specs.Parts.{◌!◌, expr_of, operations_of, token_of}
+use Rattle.tree_parts.specs.Parts.{◌!◌, expr_of, operations_of, token_of}
 use Rattle.ada_tree.proofs.Joins.{flat2}
 use Rattle.ada_tree.proofs.Phrases.{grouped_words, operator_text, unary_text, unary_words}
 use Rattle.ada_tree.proofs.Texts.{Law, operations, text}

@@ -10,7 +10,7 @@ use Rattle.grammar_table.specs.declared.symbols.Terminal.TheVariants as terminal
 use Rattle.ada_tree.specs.declared.rules.StatementRule.TheVariants as StatementRule'
 use Rattle.ada_tree.specs.declared.rules.ItemRule.TheVariants as ItemRule'
 use Rattle.ada_tree.specs.declared.rules.Rule.TheVariants as rule
-use Rattle.ada_tree.specs.Parts.{◌!◌, stmts_of, token_of}
+use Rattle.tree_parts.specs.Parts.{◌!◌, stmts_of, token_of}
 use Rattle.ada_tree.proofs.Joins.{branch5, case8, flat2}
 use Rattle.ada_tree.proofs.Phrases.{named_words, otherwise_words}
 use Rattle.ada_tree.proofs.Texts.{Law, text, token_text}

@@ -8,7 +8,7 @@ use Rattle.grammar_table.specs.declared.symbols.Terminal.TheVariants as terminal
 use Rattle.ada_tree.specs.declared.rules.SubprogramRule.TheVariants as SubprogramRule'
 use Rattle.ada_tree.specs.declared.rules.ItemRule.TheVariants as ItemRule'
 use Rattle.ada_tree.specs.declared.rules.Rule.TheVariants as rule
-use Rattle.ada_tree.specs.Parts.{◌!◌, args_of, mode_of, token_of}
+use Rattle.tree_parts.specs.Parts.{◌!◌, args_of, mode_of, token_of}
 use Rattle.ada_tree.proofs.Joins.{flat3, flat5}
 use Rattle.ada_tree.proofs.Phrases.{args_words, mode_words}
 use Rattle.ada_tree.proofs.Texts.{Law, text, token_text}

@@ -10,7 +10,7 @@ use Rattle.ada_tree.specs.declared.rules.DeclarationRule.TheVariants as Declarat
 use Rattle.ada_tree.specs.declared.rules.TypeRule.TheVariants as TypeRule'
 use Rattle.ada_tree.specs.declared.rules.ItemRule.TheVariants as ItemRule'
 use Rattle.ada_tree.specs.declared.rules.Rule.TheVariants as rule
-use Rattle.ada_tree.specs.Parts.{◌!◌, index_form_of, object_of, token_of}
+use Rattle.tree_parts.specs.Parts.{◌!◌, index_form_of, object_of, token_of}
 use Rattle.ada_tree.proofs.Joins.{flat2, flat5, flat6, record5}
 use Rattle.ada_tree.proofs.Phrases.{box_words, object_words}
 use Rattle.ada_tree.proofs.Texts.{Law, text, token_text}

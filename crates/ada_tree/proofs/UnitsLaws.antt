@@ -10,7 +10,7 @@ use Rattle.grammar_table.specs.declared.symbols.Terminal.TheVariants as terminal
 use Rattle.ada_tree.specs.declared.rules.UnitRule.TheVariants as UnitRule'
 use Rattle.ada_tree.specs.declared.rules.DeclarationRule.TheVariants as DeclarationRule'
 use Rattle.ada_tree.specs.declared.rules.Rule.TheVariants as rule
-use Rattle.ada_tree.specs.Parts.{◌!◌, token_of, unit_of}
+use Rattle.tree_parts.specs.Parts.{◌!◌, token_of, unit_of}
 use Rattle.ada_tree.proofs.Joins.{flat2, flat5}
 use Rattle.ada_tree.proofs.Phrases.{pack_words}
 use Rattle.ada_tree.proofs.Texts.{Law, text, token_text}

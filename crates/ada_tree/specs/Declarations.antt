@@ -1,14 +1,14 @@
 -- What becomes of declarations (Ada RM 3.2.1, 3.2.2, 3.3.1, 3.11, 8.4).
 use Rattle.std.specs.Prelude.{List, ◌∷◌, true, false, Some, None, []}
 use Rattle.ada_syntax.specs.declared.declarations.DeclForm.TheVariants as decl_form
-use Rattle.ada_tree.specs.declared.part.DeclarationPart.TheVariants as declaration_part
-use Rattle.ada_tree.specs.declared.part.Part.{Part}
-use Rattle.ada_tree.specs.declared.part.Part.TheVariants as part
+use Rattle.tree_parts.specs.declared.declaration_parts.DeclarationPart.TheVariants as declaration_part
+use Rattle.tree_parts.specs.declared.parts.Part.{Part}
+use Rattle.tree_parts.specs.declared.parts.Part.TheVariants as part
 use Rattle.ada_tree.specs.declared.rules.DeclarationRule.{DeclarationRule}
 use Rattle.ada_tree.specs.declared.rules.DeclarationRule.TheVariants as rule
-use Rattle.ada_tree.specs.Missing.{decl_at}
-use Rattle.ada_tree.specs.Operations.{joined}
-use Rattle.ada_tree.specs.Parts.{◌!◌, after, decl_of, decls_of, expr_of, names_of, object_of, optional_expr_of, place_of, pragma_of, sub_ind_of, sub_of, type_def_of}
+use Rattle.tree_parts.specs.Missing.{decl_at}
+use Rattle.tree_parts.specs.Operations.{joined}
+use Rattle.tree_parts.specs.Parts.{◌!◌, after, decl_of, decls_of, expr_of, names_of, object_of, optional_expr_of, place_of, pragma_of, sub_ind_of, sub_of, type_def_of}
 
 -- the parts after the parts of a production are taken from the front, and what the rule makes of them is put there
 abbrev pub declaration_rule : DeclarationRule → List Part → List Part

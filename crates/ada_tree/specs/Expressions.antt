@@ -1,15 +1,15 @@
 -- What becomes of operators (Ada RM 4.4, 4.5).
 use Rattle.std.specs.Prelude.{List, ◌∷◌, true, false, []}
-use Rattle.ada_tree.specs.declared.part.ExpressionPart.TheVariants as expression_part
-use Rattle.ada_tree.specs.declared.part.Part.{Part}
-use Rattle.ada_tree.specs.declared.part.Part.TheVariants as part
-use Rattle.ada_tree.specs.declared.part.RelationTail.TheVariants as relation_tail
+use Rattle.tree_parts.specs.declared.expression_parts.ExpressionPart.TheVariants as expression_part
+use Rattle.tree_parts.specs.declared.parts.Part.{Part}
+use Rattle.tree_parts.specs.declared.parts.Part.TheVariants as part
+use Rattle.tree_parts.specs.declared.relations.RelationTail.TheVariants as relation_tail
 use Rattle.ada_tree.specs.declared.rules.ExpressionRule.{ExpressionRule}
 use Rattle.ada_tree.specs.declared.rules.ExpressionRule.TheVariants as rule
-use Rattle.ada_tree.specs.Operations.{grouped, operation, unary}
-use Rattle.ada_tree.specs.Operators.{logic_operator, operator_of, short_operator_of}
-use Rattle.ada_tree.specs.Relations.{related}
-use Rattle.ada_tree.specs.Parts.{◌!◌, after, expr_of, logic_tail_of, operations_of, place_of, range_of, relation_tail_of, token_of}
+use Rattle.tree_parts.specs.Operations.{grouped, operation, unary}
+use Rattle.tree_parts.specs.Operators.{logic_operator, operator_of, short_operator_of}
+use Rattle.tree_parts.specs.Relations.{related}
+use Rattle.tree_parts.specs.Parts.{◌!◌, after, expr_of, logic_tail_of, operations_of, place_of, range_of, relation_tail_of, token_of}
 
 -- the parts after the parts of a production are taken from the front, and what the rule makes of them is put there
 abbrev pub expression_rule : ExpressionRule → List Part → List Part

@@ -2,17 +2,17 @@
 use Rattle.std.specs.Prelude.{List, ◌∷◌, Some, None, [], unwrap_or}
 use Rattle.ada_syntax.specs.declared.expressions.ArgChoice.TheVariants as arg_choice
 use Rattle.ada_syntax.specs.declared.expressions.ItemForm.TheVariants as item_form
-use Rattle.ada_tree.specs.declared.part.ArgTail.TheVariants as arg_tail
-use Rattle.ada_tree.specs.declared.part.ItemPart.TheVariants as item_part
-use Rattle.ada_tree.specs.declared.part.Part.{Part}
-use Rattle.ada_tree.specs.declared.part.Part.TheVariants as part
+use Rattle.tree_parts.specs.declared.relations.ArgTail.TheVariants as arg_tail
+use Rattle.tree_parts.specs.declared.item_parts.ItemPart.TheVariants as item_part
+use Rattle.tree_parts.specs.declared.parts.Part.{Part}
+use Rattle.tree_parts.specs.declared.parts.Part.TheVariants as part
 use Rattle.ada_tree.specs.declared.rules.ItemRule.{ItemRule}
 use Rattle.ada_tree.specs.declared.rules.ItemRule.TheVariants as rule
-use Rattle.ada_tree.specs.Ends.{expr_end, item_end}
-use Rattle.ada_tree.specs.Operations.{joined, span_of}
-use Rattle.ada_tree.specs.Operators.{quantifier_of}
-use Rattle.ada_tree.specs.Relations.{argument, plain}
-use Rattle.ada_tree.specs.Parts.{◌!◌, after, arg_of, arg_tail_of, args_of, arms_of, expr_of, item_of, operations_of, optional_expr_of, optional_item_of, place_of, range_of, relation_tail_of, token_of}
+use Rattle.tree_parts.specs.Ends.{expr_end, item_end}
+use Rattle.tree_parts.specs.Operations.{joined, span_of}
+use Rattle.tree_parts.specs.Operators.{quantifier_of}
+use Rattle.tree_parts.specs.Relations.{argument, plain}
+use Rattle.tree_parts.specs.Parts.{◌!◌, after, arg_of, arg_tail_of, args_of, arms_of, expr_of, item_of, operations_of, optional_expr_of, optional_item_of, place_of, range_of, relation_tail_of, token_of}
 
 -- the parts after the parts of a production are taken from the front, and what the rule makes of them is put there
 abbrev pub item_rule : ItemRule → List Part → List Part

@@ -1,6 +1,6 @@
 -- What a production makes of its parts.
 use Rattle.std.specs.Prelude.{ℕ, zero, suc, List, [], ◌∷◌}
-use Rattle.ada_tree.specs.declared.part.Part.{Part}
+use Rattle.tree_parts.specs.declared.parts.Part.{Part}
 use Rattle.ada_tree.specs.declared.rules.Rule.{Rule}
 use Rattle.ada_tree.specs.declared.rules.Rule.TheVariants as rule
 use Rattle.ada_tree.specs.declared.rule_table.TheConstants.{RULES}
@@ -8,7 +8,7 @@ use Rattle.ada_tree.specs.Declarations.{declaration_rule}
 use Rattle.ada_tree.specs.Expressions.{expression_rule}
 use Rattle.ada_tree.specs.Items.{item_rule}
 use Rattle.ada_tree.specs.Names.{name_rule}
-use Rattle.ada_tree.specs.Parts.{rest}
+use Rattle.tree_parts.specs.Parts.{rest}
 use Rattle.ada_tree.specs.Statements.{statement_rule}
 use Rattle.ada_tree.specs.Subprograms.{subprogram_rule}
 use Rattle.ada_tree.specs.Types.{type_rule}

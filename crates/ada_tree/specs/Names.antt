@@ -3,15 +3,15 @@ use Rattle.std.specs.Prelude.{List, ◌∷◌, Some, None, [], unwrap_or}
 use Rattle.ada_syntax.specs.declared.expressions.Attribute.TheVariants as attribute
 use Rattle.ada_syntax.specs.declared.expressions.ExprNode.TheVariants as node
 use Rattle.ada_syntax.specs.declared.expressions.Suffix.TheVariants as suffix
-use Rattle.ada_tree.specs.declared.part.ExpressionPart.TheVariants as expression_part
-use Rattle.ada_tree.specs.declared.part.Part.{Part}
-use Rattle.ada_tree.specs.declared.part.Part.TheVariants as part
+use Rattle.tree_parts.specs.declared.expression_parts.ExpressionPart.TheVariants as expression_part
+use Rattle.tree_parts.specs.declared.parts.Part.{Part}
+use Rattle.tree_parts.specs.declared.parts.Part.TheVariants as part
 use Rattle.ada_tree.specs.declared.rules.NameRule.{NameRule}
 use Rattle.ada_tree.specs.declared.rules.NameRule.TheVariants as rule
-use Rattle.ada_tree.specs.Missing.{expr_at}
-use Rattle.ada_tree.specs.Operations.{joined}
-use Rattle.ada_tree.specs.Operators.{number_of}
-use Rattle.ada_tree.specs.Parts.{◌!◌, after, args_of, attribute_of, name_of, place_of, suffixes_of, token_of}
+use Rattle.tree_parts.specs.Missing.{expr_at}
+use Rattle.tree_parts.specs.Operations.{joined}
+use Rattle.tree_parts.specs.Operators.{number_of}
+use Rattle.tree_parts.specs.Parts.{◌!◌, after, args_of, attribute_of, name_of, place_of, suffixes_of, token_of}
 
 -- the parts after the parts of a production are taken from the front, and what the rule makes of them is put there
 abbrev pub name_rule : NameRule → List Part → List Part

@@ -3,16 +3,16 @@ use Rattle.std.specs.Prelude.{List, ◌∷◌, true, false, Some, None, [], unwr
 use Rattle.ada_syntax.specs.declared.statements.Action.TheVariants as action
 use Rattle.ada_syntax.specs.declared.statements.Choice.TheVariants as choice
 use Rattle.ada_syntax.specs.declared.statements.LoopHead.TheVariants as loop_head
-use Rattle.ada_tree.specs.declared.part.StatementPart.TheVariants as statement_part
-use Rattle.ada_tree.specs.declared.part.ChoicePart.TheVariants as choice_part
-use Rattle.ada_tree.specs.declared.part.Part.{Part}
-use Rattle.ada_tree.specs.declared.part.Part.TheVariants as part
+use Rattle.tree_parts.specs.declared.statement_parts.StatementPart.TheVariants as statement_part
+use Rattle.tree_parts.specs.declared.statement_parts.ChoicePart.TheVariants as choice_part
+use Rattle.tree_parts.specs.declared.parts.Part.{Part}
+use Rattle.tree_parts.specs.declared.parts.Part.TheVariants as part
 use Rattle.ada_tree.specs.declared.rules.StatementRule.{StatementRule}
 use Rattle.ada_tree.specs.declared.rules.StatementRule.TheVariants as rule
-use Rattle.ada_tree.specs.Missing.{stmt_at}
-use Rattle.ada_tree.specs.Operations.{joined}
-use Rattle.ada_tree.specs.Relations.{named_action}
-use Rattle.ada_tree.specs.Parts.{◌!◌, after, alternative_of, alternatives_of, branches_of, choice_of, choices_of, expr_of, flag_of, loop_head_of, name_of, optional_expr_of, place_of, pragma_of, range_of, stmt_of, stmts_of}
+use Rattle.tree_parts.specs.Missing.{stmt_at}
+use Rattle.tree_parts.specs.Operations.{joined}
+use Rattle.tree_parts.specs.Relations.{named_action}
+use Rattle.tree_parts.specs.Parts.{◌!◌, after, alternative_of, alternatives_of, branches_of, choice_of, choices_of, expr_of, flag_of, loop_head_of, name_of, optional_expr_of, place_of, pragma_of, range_of, stmt_of, stmts_of}
 
 -- the parts after the parts of a production are taken from the front, and what the rule makes of them is put there
 abbrev pub statement_rule : StatementRule → List Part → List Part

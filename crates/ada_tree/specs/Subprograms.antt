@@ -1,15 +1,15 @@
 -- What becomes of subprograms, aspects and pragmas (Ada RM 2.8, 6.1, 6.3, 13.1.1).
 use Rattle.std.specs.Prelude.{List, ◌∷◌, Some, None, []}
 use Rattle.ada_syntax.specs.declared.declarations.Mode.TheVariants as mode
-use Rattle.ada_tree.specs.declared.part.DeclarationPart.TheVariants as declaration_part
-use Rattle.ada_tree.specs.declared.part.SubprogramPart.TheVariants as subprogram_part
-use Rattle.ada_tree.specs.declared.part.Part.{Part}
-use Rattle.ada_tree.specs.declared.part.Part.TheVariants as part
+use Rattle.tree_parts.specs.declared.declaration_parts.DeclarationPart.TheVariants as declaration_part
+use Rattle.tree_parts.specs.declared.subprogram_parts.SubprogramPart.TheVariants as subprogram_part
+use Rattle.tree_parts.specs.declared.parts.Part.{Part}
+use Rattle.tree_parts.specs.declared.parts.Part.TheVariants as part
 use Rattle.ada_tree.specs.declared.rules.SubprogramRule.{SubprogramRule}
 use Rattle.ada_tree.specs.declared.rules.SubprogramRule.TheVariants as rule
-use Rattle.ada_tree.specs.Ends.{item_end}
-use Rattle.ada_tree.specs.Operations.{joined}
-use Rattle.ada_tree.specs.Parts.{◌!◌, after, args_of, aspect_of, aspects_of, body_of, decls_of, end_name_of, mode_of, name_of, names_of, optional_item_of, param_of, params_of, place_of, stmts_of, sub_ind_of}
+use Rattle.tree_parts.specs.Ends.{item_end}
+use Rattle.tree_parts.specs.Operations.{joined}
+use Rattle.tree_parts.specs.Parts.{◌!◌, after, args_of, aspect_of, aspects_of, body_of, decls_of, end_name_of, mode_of, name_of, names_of, optional_item_of, param_of, params_of, place_of, stmts_of, sub_ind_of}
 
 -- the parts after the parts of a production are taken from the front, and what the rule makes of them is put there
 abbrev pub subprogram_rule : SubprogramRule → List Part → List Part

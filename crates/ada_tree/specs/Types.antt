@@ -2,14 +2,14 @@
 use Rattle.std.specs.Prelude.{List, ◌∷◌, Some, None, []}
 use Rattle.ada_syntax.specs.declared.declarations.IndexForm.TheVariants as index_form
 use Rattle.ada_syntax.specs.declared.declarations.TypeForm.TheVariants as type_form
-use Rattle.ada_tree.specs.declared.part.TypePart.TheVariants as type_part
-use Rattle.ada_tree.specs.declared.part.Part.{Part}
-use Rattle.ada_tree.specs.declared.part.Part.TheVariants as part
+use Rattle.tree_parts.specs.declared.type_parts.TypePart.TheVariants as type_part
+use Rattle.tree_parts.specs.declared.parts.Part.{Part}
+use Rattle.tree_parts.specs.declared.parts.Part.TheVariants as part
 use Rattle.ada_tree.specs.declared.rules.TypeRule.{TypeRule}
 use Rattle.ada_tree.specs.declared.rules.TypeRule.TheVariants as rule
-use Rattle.ada_tree.specs.Ends.{bounds_end}
-use Rattle.ada_tree.specs.Operations.{joined, span_of}
-use Rattle.ada_tree.specs.Parts.{◌!◌, after, bounds_of, component_of, components_of, expr_of, index_form_of, index_of, name_of, names_of, place_of, sub_ind_of}
+use Rattle.tree_parts.specs.Ends.{bounds_end}
+use Rattle.tree_parts.specs.Operations.{joined, span_of}
+use Rattle.tree_parts.specs.Parts.{◌!◌, after, bounds_of, component_of, components_of, expr_of, index_form_of, index_of, name_of, names_of, place_of, sub_ind_of}
 
 -- the parts after the parts of a production are taken from the front, and what the rule makes of them is put there
 abbrev pub type_rule : TypeRule → List Part → List Part

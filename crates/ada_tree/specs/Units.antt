@@ -2,13 +2,13 @@
 use Rattle.std.specs.Prelude.{List, ◌∷◌, Some, None, [], unwrap_or}
 use Rattle.ada_syntax.specs.declared.units.ContextItem.TheVariants as context_item
 use Rattle.ada_syntax.specs.declared.units.UnitForm.TheVariants as unit_form
-use Rattle.ada_tree.specs.declared.part.UnitPart.TheVariants as unit_part
-use Rattle.ada_tree.specs.declared.part.Part.{Part}
-use Rattle.ada_tree.specs.declared.part.Part.TheVariants as part
+use Rattle.tree_parts.specs.declared.unit_parts.UnitPart.TheVariants as unit_part
+use Rattle.tree_parts.specs.declared.parts.Part.{Part}
+use Rattle.tree_parts.specs.declared.parts.Part.TheVariants as part
 use Rattle.ada_tree.specs.declared.rules.UnitRule.{UnitRule}
 use Rattle.ada_tree.specs.declared.rules.UnitRule.TheVariants as rule
-use Rattle.ada_tree.specs.Operations.{joined}
-use Rattle.ada_tree.specs.Parts.{◌!◌, after, aspects_of, context_of, decls_of, end_name_of, names_of, place_of, pragma_of, private_of, sub_of, unit_of}
+use Rattle.tree_parts.specs.Operations.{joined}
+use Rattle.tree_parts.specs.Parts.{◌!◌, after, aspects_of, context_of, decls_of, end_name_of, names_of, place_of, pragma_of, private_of, sub_of, unit_of}
 
 -- the parts after the parts of a production are taken from the front, and what the rule makes of them is put there
 abbrev pub unit_rule : UnitRule → List Part → List Part

@@ -3,22 +3,17 @@
 ghost use Rattle.std.specs.Prelude.{◌≡◌, OnOk};
 ghost use Rattle.ada_tree.specs.Declarations.{declaration_rule};
 
-use crate::chain::Chain;
-use crate::operations::joined;
-use crate::part::DeclarationPart;
-use crate::parts::Parts;
 use crate::rules::DeclarationRule;
-use ada_syntax::{Decl, DeclForm, Object};
-use grammar_table::Starved;
+use ada_syntax::{DeclForm, Object};
 use std::alloc::Global;
+use tree_parts::{Chain, DeclarationPart, Parts, Starved, joined};
 
 /// `Decls = Decl Decls`
 fn apply_decls(alloc: Global, parts: &mut Parts) -> Result<(), Starved>
     ensures { OnOk result (parts.new ≡ declaration_rule DeclarationRule.Decls parts.old) }
 {
-    let decl = parts.decl(alloc);
-    let mut decls = parts.decls(alloc);
-    decls.put_first(decl)?;
+    let decl = parts.declaration().decl(alloc)?;
+    let decls = parts.declaration().decls(alloc).with_first(decl)?;
     parts.put_declaration(alloc, DeclarationPart::Decls(decls))
 }
 
@@ -29,15 +24,9 @@ fn apply_type(alloc: Global, parts: &mut Parts) -> Result<(), Starved>
     let start = parts.place();
     let name = parts.place();
     parts.skip();
-    let definition = parts.type_def(alloc);
+    let definition = parts.type_part().type_def(alloc)?;
     let end = parts.place();
-    parts.put_declaration(
-        alloc,
-        DeclarationPart::Decl(Decl {
-            span: joined(start, end),
-            form: DeclForm::Type(name, definition),
-        }),
-    )
+    parts.put_decl(alloc, joined(start, end), DeclForm::Type(name, definition))
 }
 
 /// `Decl = subtype Id is SubInd ;`
@@ -47,15 +36,9 @@ fn apply_subtype(alloc: Global, parts: &mut Parts) -> Result<(), Starved>
     let start = parts.place();
     let name = parts.place();
     parts.skip();
-    let subtype = parts.sub_ind(alloc);
+    let subtype = parts.type_part().sub_ind(alloc);
     let end = parts.place();
-    parts.put_declaration(
-        alloc,
-        DeclarationPart::Decl(Decl {
-            span: joined(start, end),
-            form: DeclForm::Subtype(name, subtype),
-        }),
-    )
+    parts.put_decl(alloc, joined(start, end), DeclForm::Subtype(name, subtype))
 }
 
 /// `Decl = Id Ids : Obj ;`
@@ -63,17 +46,15 @@ fn apply_object(alloc: Global, parts: &mut Parts) -> Result<(), Starved>
     ensures { OnOk result (parts.new ≡ declaration_rule DeclarationRule.Object parts.old) }
 {
     let name = parts.place();
-    let mut names = parts.names(alloc);
+    let names = parts.unit().names(alloc);
     parts.skip();
-    let object = parts.object();
+    let object = parts.declaration().object();
     let end = parts.place();
-    names.put_first(name)?;
-    parts.put_declaration(
+    let names = names.with_first(name)?;
+    parts.put_decl(
         alloc,
-        DeclarationPart::Decl(Decl {
-            span: joined(name, end),
-            form: DeclForm::Object(names.into_items(), object),
-        }),
+        joined(name, end),
+        DeclForm::Object(names.into_items(), object),
     )
 }
 
@@ -81,28 +62,16 @@ fn apply_object(alloc: Global, parts: &mut Parts) -> Result<(), Starved>
 fn apply_decl_sub(alloc: Global, parts: &mut Parts) -> Result<(), Starved>
     ensures { OnOk result (parts.new ≡ declaration_rule DeclarationRule.DeclSub parts.old) }
 {
-    let sub = parts.sub(alloc);
-    parts.put_declaration(
-        alloc,
-        DeclarationPart::Decl(Decl {
-            span: sub.span,
-            form: DeclForm::Sub(sub),
-        }),
-    )
+    let sub = parts.declaration().sub(alloc);
+    parts.put_decl(alloc, sub.span, DeclForm::Sub(sub))
 }
 
 /// `Decl = Pragma`
 fn apply_decl_pragma(alloc: Global, parts: &mut Parts) -> Result<(), Starved>
     ensures { OnOk result (parts.new ≡ declaration_rule DeclarationRule.DeclPragma parts.old) }
 {
-    let pragma = parts.pragma(alloc);
-    parts.put_declaration(
-        alloc,
-        DeclarationPart::Decl(Decl {
-            span: pragma.span,
-            form: DeclForm::Pragma(pragma),
-        }),
-    )
+    let pragma = parts.declaration().pragma(alloc);
+    parts.put_decl(alloc, pragma.span, DeclForm::Pragma(pragma))
 }
 
 /// `Decl = use Id Ids ;`
@@ -111,24 +80,18 @@ fn apply_decl_use(alloc: Global, parts: &mut Parts) -> Result<(), Starved>
 {
     let start = parts.place();
     let name = parts.place();
-    let mut names = parts.names(alloc);
+    let names = parts.unit().names(alloc);
     let end = parts.place();
-    names.put_first(name)?;
-    parts.put_declaration(
-        alloc,
-        DeclarationPart::Decl(Decl {
-            span: joined(start, end),
-            form: DeclForm::Use(names.into_items()),
-        }),
-    )
+    let names = names.with_first(name)?;
+    parts.put_decl(alloc, joined(start, end), DeclForm::Use(names.into_items()))
 }
 
 /// `Obj = SubInd Init`
 fn apply_variable(alloc: Global, parts: &mut Parts) -> Result<(), Starved>
     ensures { OnOk result (parts.new ≡ declaration_rule DeclarationRule.Variable parts.old) }
 {
-    let subtype = parts.sub_ind(alloc);
-    let value = parts.optional_expr();
+    let subtype = parts.type_part().sub_ind(alloc);
+    let value = parts.item().optional_expr();
     parts.put_declaration(
         alloc,
         DeclarationPart::Object(Object {
@@ -144,7 +107,7 @@ fn apply_named_number(alloc: Global, parts: &mut Parts) -> Result<(), Starved>
     ensures { OnOk result (parts.new ≡ declaration_rule DeclarationRule.NamedNumber parts.old) }
 {
     parts.skip();
-    let value = parts.expr();
+    let value = parts.expression().expr(alloc)?;
     parts.put_declaration(
         alloc,
         DeclarationPart::Object(Object {
@@ -159,8 +122,8 @@ fn apply_named_number(alloc: Global, parts: &mut Parts) -> Result<(), Starved>
 fn apply_constant(alloc: Global, parts: &mut Parts) -> Result<(), Starved>
     ensures { OnOk result (parts.new ≡ declaration_rule DeclarationRule.Constant parts.old) }
 {
-    let subtype = parts.sub_ind(alloc);
-    let value = parts.optional_expr();
+    let subtype = parts.type_part().sub_ind(alloc);
+    let value = parts.item().optional_expr();
     parts.put_declaration(
         alloc,
         DeclarationPart::Object(Object {

@@ -3,23 +3,21 @@
 ghost use Rattle.std.specs.Prelude.{◌≡◌, OnOk};
 ghost use Rattle.ada_tree.specs.Expressions.{expression_rule};
 
-use crate::chain::Chain;
-use crate::operations::{Operation, grouped, unary};
-use crate::operators::{logic_operator, operator_of, short_operator_of};
-use crate::part::{ExpressionPart, LogicTail, RelationTail};
-use crate::parts::Parts;
-use crate::relations::related;
 use crate::rules::ExpressionRule;
-use grammar_table::Starved;
+use sqlite_items::Boxed;
 use std::alloc::Global;
+use tree_parts::{
+    Chain, ExpressionPart, LogicTail, Operation, Parts, RelationTail, Starved, grouped,
+    logic_operator, operator_of, short_operator_of, unary,
+};
 
 /// `Expr = Rel Logic | Simple = Term AddMore | Term = Factor MulMore | Factor = Primary Pow`
 fn apply_grouped(alloc: Global, parts: &mut Parts) -> Result<(), Starved>
     ensures { OnOk result (parts.new ≡ expression_rule ExpressionRule.Grouped parts.old) }
 {
-    let first = parts.expr();
-    let more = parts.operations(alloc);
-    parts.put_expression(alloc, ExpressionPart::Expr(grouped(alloc, first, more)?))
+    let first = parts.expression().expr(alloc)?;
+    let more = parts.expression().operations(alloc);
+    parts.put_expression(ExpressionPart::Expr(grouped(alloc, first, more)?))
 }
 
 /// `Logic = and AndRest | Logic = or OrRest`
@@ -27,18 +25,18 @@ fn apply_logic(alloc: Global, parts: &mut Parts) -> Result<(), Starved>
     ensures { OnOk result (parts.new ≡ expression_rule ExpressionRule.Logic parts.old) }
 {
     let token = parts.token();
-    let tail = parts.logic_tail(alloc);
+    let tail = parts.expression().logic_tail(alloc)?;
     let LogicTail {
         short,
         operand,
         mut more,
     } = tail;
-    more.put_first(Operation {
+    let more = more.with_first(Operation {
         place: token.span,
         operator: logic_operator(short, token.kind),
         operand,
     })?;
-    parts.put_expression(alloc, ExpressionPart::Operations(more))
+    parts.put_expression(ExpressionPart::Operations(more))
 }
 
 /// `AndRest = then Rel ThenMore | OrRest = else Rel ElseMore`
@@ -46,32 +44,26 @@ fn apply_logic_short(alloc: Global, parts: &mut Parts) -> Result<(), Starved>
     ensures { OnOk result (parts.new ≡ expression_rule ExpressionRule.LogicShort parts.old) }
 {
     parts.skip();
-    let operand = parts.expr();
-    let more = parts.operations(alloc);
-    parts.put_expression(
-        alloc,
-        ExpressionPart::LogicTail(LogicTail {
-            short: true,
-            operand,
-            more,
-        }),
-    )
+    let operand = parts.expression().expr(alloc)?;
+    let more = parts.expression().operations(alloc);
+    parts.put_expression(ExpressionPart::LogicTail(LogicTail {
+        short: true,
+        operand,
+        more,
+    }))
 }
 
 /// `AndRest = Rel AndMore | OrRest = Rel OrMore`
 fn apply_logic_plain(alloc: Global, parts: &mut Parts) -> Result<(), Starved>
     ensures { OnOk result (parts.new ≡ expression_rule ExpressionRule.LogicPlain parts.old) }
 {
-    let operand = parts.expr();
-    let more = parts.operations(alloc);
-    parts.put_expression(
-        alloc,
-        ExpressionPart::LogicTail(LogicTail {
-            short: false,
-            operand,
-            more,
-        }),
-    )
+    let operand = parts.expression().expr(alloc)?;
+    let more = parts.expression().operations(alloc);
+    parts.put_expression(ExpressionPart::LogicTail(LogicTail {
+        short: false,
+        operand,
+        more,
+    }))
 }
 
 /// `AddMore = + Term AddMore, and the like`
@@ -79,14 +71,13 @@ fn apply_operations(alloc: Global, parts: &mut Parts) -> Result<(), Starved>
     ensures { OnOk result (parts.new ≡ expression_rule ExpressionRule.Operations parts.old) }
 {
     let token = parts.token();
-    let operand = parts.expr();
-    let mut more = parts.operations(alloc);
-    more.put_first(Operation {
+    let operand = parts.expression().expr(alloc)?;
+    let more = parts.expression().operations(alloc).with_first(Operation {
         place: token.span,
         operator: operator_of(token.kind),
         operand,
     })?;
-    parts.put_expression(alloc, ExpressionPart::Operations(more))
+    parts.put_expression(ExpressionPart::Operations(more))
 }
 
 /// `ThenMore = and then Rel ThenMore | ElseMore = or else Rel ElseMore`
@@ -95,14 +86,13 @@ fn apply_short_operations(alloc: Global, parts: &mut Parts) -> Result<(), Starve
 {
     let token = parts.token();
     parts.skip();
-    let operand = parts.expr();
-    let mut more = parts.operations(alloc);
-    more.put_first(Operation {
+    let operand = parts.expression().expr(alloc)?;
+    let more = parts.expression().operations(alloc).with_first(Operation {
         place: token.span,
         operator: short_operator_of(token.kind),
         operand,
     })?;
-    parts.put_expression(alloc, ExpressionPart::Operations(more))
+    parts.put_expression(ExpressionPart::Operations(more))
 }
 
 /// `Pow = ** Primary`
@@ -110,23 +100,23 @@ fn apply_power(alloc: Global, parts: &mut Parts) -> Result<(), Starved>
     ensures { OnOk result (parts.new ≡ expression_rule ExpressionRule.Power parts.old) }
 {
     let token = parts.token();
-    let operand = parts.expr();
-    let mut more = Chain::new(alloc);
-    more.put_first(Operation {
+    let operand = parts.expression().expr(alloc)?;
+    let more = Chain::new(alloc);
+    let more = more.with_first(Operation {
         place: token.span,
         operator: operator_of(token.kind),
         operand,
     })?;
-    parts.put_expression(alloc, ExpressionPart::Operations(more))
+    parts.put_expression(ExpressionPart::Operations(more))
 }
 
 /// `Rel = Simple RelTail`
 fn apply_relation(alloc: Global, parts: &mut Parts) -> Result<(), Starved>
     ensures { OnOk result (parts.new ≡ expression_rule ExpressionRule.Relation parts.old) }
 {
-    let first = parts.expr();
-    let tail = parts.relation_tail();
-    parts.put_expression(alloc, ExpressionPart::Expr(related(alloc, first, tail)?))
+    let first = parts.expression().expr(alloc)?;
+    let tail = parts.expression().relation_tail();
+    parts.put_expression(ExpressionPart::Expr(tail.related(alloc, first)?))
 }
 
 /// `RelTail = RelOp Simple`
@@ -134,15 +124,12 @@ fn apply_compare(alloc: Global, parts: &mut Parts) -> Result<(), Starved>
     ensures { OnOk result (parts.new ≡ expression_rule ExpressionRule.Compare parts.old) }
 {
     let token = parts.token();
-    let operand = parts.expr();
-    parts.put_expression(
-        alloc,
-        ExpressionPart::RelationTail(RelationTail::Compare(Operation {
-            place: token.span,
-            operator: operator_of(token.kind),
-            operand,
-        })),
-    )
+    let operand = parts.expression().expr(alloc)?;
+    parts.put_expression(ExpressionPart::RelationTail(RelationTail::Compare(Operation {
+        place: token.span,
+        operator: operator_of(token.kind),
+        operand,
+    })))
 }
 
 /// `RelTail = in Range`
@@ -150,11 +137,12 @@ fn apply_in(alloc: Global, parts: &mut Parts) -> Result<(), Starved>
     ensures { OnOk result (parts.new ≡ expression_rule ExpressionRule.In parts.old) }
 {
     let place = parts.place();
-    let range = parts.range();
-    parts.put_expression(
-        alloc,
-        ExpressionPart::RelationTail(RelationTail::Member(place, false, range)),
-    )
+    let range = parts.item().range(alloc)?;
+    parts.put_expression(ExpressionPart::RelationTail(RelationTail::Member(
+        place,
+        false,
+        Boxed::new(alloc, range)?,
+    )))
 }
 
 /// `RelTail = not in Range`
@@ -163,11 +151,12 @@ fn apply_not_in(alloc: Global, parts: &mut Parts) -> Result<(), Starved>
 {
     let place = parts.place();
     parts.skip();
-    let range = parts.range();
-    parts.put_expression(
-        alloc,
-        ExpressionPart::RelationTail(RelationTail::Member(place, true, range)),
-    )
+    let range = parts.item().range(alloc)?;
+    parts.put_expression(ExpressionPart::RelationTail(RelationTail::Member(
+        place,
+        true,
+        Boxed::new(alloc, range)?,
+    )))
 }
 
 /// `Simple = + Term AddMore | Simple = - Term AddMore`
@@ -175,10 +164,10 @@ fn apply_signed(alloc: Global, parts: &mut Parts) -> Result<(), Starved>
     ensures { OnOk result (parts.new ≡ expression_rule ExpressionRule.Signed parts.old) }
 {
     let token = parts.token();
-    let operand = parts.expr();
-    let more = parts.operations(alloc);
+    let operand = parts.expression().expr(alloc)?;
+    let more = parts.expression().operations(alloc);
     let first = unary(alloc, token, operand)?;
-    parts.put_expression(alloc, ExpressionPart::Expr(grouped(alloc, first, more)?))
+    parts.put_expression(ExpressionPart::Expr(grouped(alloc, first, more)?))
 }
 
 /// `Factor = abs Primary | Factor = not Primary`
@@ -186,8 +175,8 @@ fn apply_prefixed(alloc: Global, parts: &mut Parts) -> Result<(), Starved>
     ensures { OnOk result (parts.new ≡ expression_rule ExpressionRule.Prefixed parts.old) }
 {
     let token = parts.token();
-    let operand = parts.expr();
-    parts.put_expression(alloc, ExpressionPart::Expr(unary(alloc, token, operand)?))
+    let operand = parts.expression().expr(alloc)?;
+    parts.put_expression(ExpressionPart::Expr(unary(alloc, token, operand)?))
 }
 
 /// Takes the parts of a production from the front, and puts there what the rule makes of them.
@@ -207,7 +196,7 @@ pub fn apply_expression_rule(
         ExpressionRule::ShortOperations => apply_short_operations(alloc, parts),
         // AddMore =, and the like
         ExpressionRule::NoOperations => {
-            parts.put_expression(alloc, ExpressionPart::Operations(Chain::new(alloc)))
+            parts.put_expression(ExpressionPart::Operations(Chain::new(alloc)))
         }
         ExpressionRule::Power => apply_power(alloc, parts),
         ExpressionRule::Relation => apply_relation(alloc, parts),
@@ -216,7 +205,7 @@ pub fn apply_expression_rule(
         ExpressionRule::NotIn => apply_not_in(alloc, parts),
         // RelTail =
         ExpressionRule::NoRelation => {
-            parts.put_expression(alloc, ExpressionPart::RelationTail(RelationTail::Nothing))
+            parts.put_expression(ExpressionPart::RelationTail(RelationTail::Nothing))
         }
         ExpressionRule::Signed => apply_signed(alloc, parts),
         ExpressionRule::Prefixed => apply_prefixed(alloc, parts),

@@ -3,24 +3,20 @@
 ghost use Rattle.std.specs.Prelude.{◌≡◌, OnOk};
 ghost use Rattle.ada_tree.specs.Items.{item_rule};
 
-use crate::chain::Chain;
-use crate::ends::{expr_end, item_end};
-use crate::operations::joined;
-use crate::operators::quantifier_of;
-use crate::part::{ArgTail, Edged, ItemPart};
-use crate::parts::Parts;
-use crate::relations::{argument, plain};
 use crate::rules::ItemRule;
-use ada_syntax::{Arg, ArgChoice, Arm, Item, ItemForm, Range};
-use grammar_table::Starved;
+use ada_syntax::{Arg, ArgChoice, Arm, ItemForm, Range};
 use std::alloc::Global;
+use tree_parts::{
+    ArgTail, Chain, Edged, ItemPart, Parts, Starved, expr_end, item_end, joined, plain,
+    quantifier_of,
+};
 
 /// `PragArg = ( Args )`
 fn apply_arg_group(alloc: Global, parts: &mut Parts) -> Result<(), Starved>
     ensures { OnOk result (parts.new ≡ item_rule ItemRule.ArgGroup parts.old) }
 {
     parts.skip();
-    let args = parts.args(alloc);
+    let args = parts.item().args(alloc);
     parts.skip();
     parts.put_item(alloc, ItemPart::Args(args))
 }
@@ -30,7 +26,7 @@ fn apply_some_expr_after(alloc: Global, parts: &mut Parts) -> Result<(), Starved
     ensures { OnOk result (parts.new ≡ item_rule ItemRule.SomeExprAfter parts.old) }
 {
     parts.skip();
-    let expr = parts.expr();
+    let expr = parts.expression().expr(alloc)?;
     parts.put_item(alloc, ItemPart::OptionalExpr(Some(expr)))
 }
 
@@ -38,7 +34,7 @@ fn apply_some_expr_after(alloc: Global, parts: &mut Parts) -> Result<(), Starved
 fn apply_some_expr(alloc: Global, parts: &mut Parts) -> Result<(), Starved>
     ensures { OnOk result (parts.new ≡ item_rule ItemRule.SomeExpr parts.old) }
 {
-    let expr = parts.expr();
+    let expr = parts.expression().expr(alloc)?;
     parts.put_item(alloc, ItemPart::OptionalExpr(Some(expr)))
 }
 
@@ -47,7 +43,7 @@ fn apply_some_item(alloc: Global, parts: &mut Parts) -> Result<(), Starved>
     ensures { OnOk result (parts.new ≡ item_rule ItemRule.SomeItem parts.old) }
 {
     parts.skip();
-    let item = parts.item();
+    let item = parts.item().item(alloc)?;
     parts.put_item(alloc, ItemPart::OptionalItem(Some(item)))
 }
 
@@ -55,8 +51,8 @@ fn apply_some_item(alloc: Global, parts: &mut Parts) -> Result<(), Starved>
 fn apply_range(alloc: Global, parts: &mut Parts) -> Result<(), Starved>
     ensures { OnOk result (parts.new ≡ item_rule ItemRule.Range parts.old) }
 {
-    let low = parts.expr();
-    let high = parts.optional_expr();
+    let low = parts.expression().expr(alloc)?;
+    let high = parts.item().optional_expr();
     parts.put_item(alloc, ItemPart::Range(Range { low, high }))
 }
 
@@ -64,8 +60,8 @@ fn apply_range(alloc: Global, parts: &mut Parts) -> Result<(), Starved>
 fn apply_plain(alloc: Global, parts: &mut Parts) -> Result<(), Starved>
     ensures { OnOk result (parts.new ≡ item_rule ItemRule.Plain parts.old) }
 {
-    let expr = parts.expr();
-    parts.put_item(alloc, ItemPart::Item(plain(expr)))
+    let expr = parts.expression().expr(alloc)?;
+    parts.put_item(alloc, ItemPart::Item(plain(alloc, expr)?))
 }
 
 /// `Cond = for AllSome Id in Range => Expr`
@@ -76,15 +72,13 @@ fn apply_quantified(alloc: Global, parts: &mut Parts) -> Result<(), Starved>
     let quantifier = parts.token();
     let name = parts.place();
     parts.skip();
-    let range = parts.range();
+    let range = parts.item().range(alloc)?;
     parts.skip();
-    let predicate = parts.expr();
-    parts.put_item(
+    let predicate = parts.expression().expr(alloc)?;
+    parts.put_formed_item(
         alloc,
-        ItemPart::Item(Item {
-            span: joined(start, predicate.span),
-            form: ItemForm::Quantified(quantifier_of(quantifier.kind), name, range, predicate),
-        }),
+        joined(start, predicate.span),
+        ItemForm::Quantified(quantifier_of(quantifier.kind), name, range, predicate),
     )
 }
 
@@ -93,23 +87,23 @@ fn apply_if(alloc: Global, parts: &mut Parts) -> Result<(), Starved>
     ensures { OnOk result (parts.new ≡ item_rule ItemRule.If parts.old) }
 {
     let start = parts.place();
-    let condition = parts.expr();
+    let condition = parts.expression().expr(alloc)?;
     parts.skip();
-    let gives = parts.expr();
-    let arms = parts.arms(alloc);
-    let otherwise = parts.optional_expr();
+    let gives = parts.expression().expr(alloc)?;
+    let arms = parts.item().arms(alloc);
+    let otherwise = parts.item().optional_expr();
     let end = expr_end(&otherwise, arms.edge.unwrap_or(gives.span));
-    let mut value = arms.value;
-    if let Err(error) = value.put_first(Arm { condition, gives }) {
-        drop(otherwise);
-        return Err(error);
-    }
-    parts.put_item(
+    let arms = match arms.value.with_first(Arm { condition, gives }) {
+        Ok(arms) => arms,
+        Err(starved) => {
+            drop(otherwise);
+            return Err(starved);
+        }
+    };
+    parts.put_formed_item(
         alloc,
-        ItemPart::Item(Item {
-            span: joined(start, end),
-            form: ItemForm::If(value.into_items(), otherwise),
-        }),
+        joined(start, end),
+        ItemForm::If(arms.into_items(), otherwise),
     )
 }
 
@@ -118,13 +112,12 @@ fn apply_arms(alloc: Global, parts: &mut Parts) -> Result<(), Starved>
     ensures { OnOk result (parts.new ≡ item_rule ItemRule.Arms parts.old) }
 {
     parts.skip();
-    let condition = parts.expr();
+    let condition = parts.expression().expr(alloc)?;
     parts.skip();
-    let gives = parts.expr();
-    let arms = parts.arms(alloc);
+    let gives = parts.expression().expr(alloc)?;
+    let arms = parts.item().arms(alloc);
     let end = arms.edge.unwrap_or(gives.span);
-    let mut value = arms.value;
-    value.put_first(Arm { condition, gives })?;
+    let value = arms.value.with_first(Arm { condition, gives })?;
     parts.put_item(
         alloc,
         ItemPart::Arms(Edged {
@@ -138,9 +131,8 @@ fn apply_arms(alloc: Global, parts: &mut Parts) -> Result<(), Starved>
 fn apply_args(alloc: Global, parts: &mut Parts) -> Result<(), Starved>
     ensures { OnOk result (parts.new ≡ item_rule ItemRule.Args parts.old) }
 {
-    let arg = parts.arg();
-    let mut args = parts.args(alloc);
-    args.put_first(arg)?;
+    let arg = parts.item().arg();
+    let args = parts.item().args(alloc).with_first(arg)?;
     parts.put_item(alloc, ItemPart::Args(args))
 }
 
@@ -149,9 +141,8 @@ fn apply_args_after(alloc: Global, parts: &mut Parts) -> Result<(), Starved>
     ensures { OnOk result (parts.new ≡ item_rule ItemRule.ArgsAfter parts.old) }
 {
     parts.skip();
-    let arg = parts.arg();
-    let mut args = parts.args(alloc);
-    args.put_first(arg)?;
+    let arg = parts.item().arg();
+    let args = parts.item().args(alloc).with_first(arg)?;
     parts.put_item(alloc, ItemPart::Args(args))
 }
 
@@ -161,7 +152,7 @@ fn apply_arg_others(alloc: Global, parts: &mut Parts) -> Result<(), Starved>
 {
     let start = parts.place();
     parts.skip();
-    let item = parts.item();
+    let item = parts.item().item(alloc)?;
     parts.put_item(
         alloc,
         ItemPart::Arg(Arg {
@@ -176,8 +167,8 @@ fn apply_arg_others(alloc: Global, parts: &mut Parts) -> Result<(), Starved>
 fn apply_arg_item(alloc: Global, parts: &mut Parts) -> Result<(), Starved>
     ensures { OnOk result (parts.new ≡ item_rule ItemRule.ArgItem parts.old) }
 {
-    let item = parts.item();
-    let value = parts.optional_item();
+    let item = parts.item().item(alloc)?;
+    let value = parts.item().optional_item();
     parts.put_item(
         alloc,
         ItemPart::Arg(Arg {
@@ -192,9 +183,9 @@ fn apply_arg_item(alloc: Global, parts: &mut Parts) -> Result<(), Starved>
 fn apply_arg_simple(alloc: Global, parts: &mut Parts) -> Result<(), Starved>
     ensures { OnOk result (parts.new ≡ item_rule ItemRule.ArgSimple parts.old) }
 {
-    let first = parts.expr();
-    let tail = parts.arg_tail(alloc);
-    parts.put_item(alloc, ItemPart::Arg(argument(alloc, first, tail)?))
+    let first = parts.expression().expr(alloc)?;
+    let tail = parts.item().arg_tail(alloc);
+    parts.put_item(alloc, ItemPart::Arg(tail.argument(alloc, first)?))
 }
 
 /// `ArgMid = .. Simple ArgVal`
@@ -202,8 +193,8 @@ fn apply_arg_up_to(alloc: Global, parts: &mut Parts) -> Result<(), Starved>
     ensures { OnOk result (parts.new ≡ item_rule ItemRule.ArgUpTo parts.old) }
 {
     parts.skip();
-    let high = parts.expr();
-    let value = parts.optional_item();
+    let high = parts.expression().expr(alloc)?;
+    let value = parts.item().optional_item();
     parts.put_item(alloc, ItemPart::ArgTail(ArgTail::UpTo(high, value)))
 }
 
@@ -211,9 +202,9 @@ fn apply_arg_up_to(alloc: Global, parts: &mut Parts) -> Result<(), Starved>
 fn apply_arg_rest(alloc: Global, parts: &mut Parts) -> Result<(), Starved>
     ensures { OnOk result (parts.new ≡ item_rule ItemRule.ArgRest parts.old) }
 {
-    let relation = parts.relation_tail();
-    let more = parts.operations(alloc);
-    let value = parts.optional_item();
+    let relation = parts.expression().relation_tail();
+    let more = parts.expression().operations(alloc);
+    let value = parts.item().optional_item();
     parts.put_item(
         alloc,
         ItemPart::ArgTail(ArgTail::Rest(relation, more, value)),

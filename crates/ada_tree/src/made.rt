@@ -7,7 +7,6 @@ use crate::declaration_rules::apply_declaration_rule;
 use crate::expression_rules::apply_expression_rule;
 use crate::item_rules::apply_item_rule;
 use crate::name_rules::apply_name_rule;
-use crate::parts::Parts;
 use crate::rule_table::RULES;
 use crate::rules::Rule;
 use crate::statement_rules::apply_statement_rule;
@@ -17,6 +16,7 @@ use crate::unit_rules::apply_unit_rule;
 use grammar_table::Starved;
 use sqlite_items::at;
 use std::alloc::Global;
+use tree_parts::Parts;
 
 /// The rule of a production, by its number.
 pub fn rule_at(production: u32) -> Rule

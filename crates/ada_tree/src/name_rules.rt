@@ -3,28 +3,17 @@
 ghost use Rattle.std.specs.Prelude.{◌≡◌, OnOk};
 ghost use Rattle.ada_tree.specs.Names.{name_rule};
 
-use crate::chain::Chain;
-use crate::operations::joined;
-use crate::operators::number_of;
-use crate::part::{Edged, Ended, ExpressionPart};
-use crate::parts::Parts;
 use crate::rules::NameRule;
-use ada_syntax::{Attribute, Expr, ExprNode, Name, Suffix};
-use grammar_table::Starved;
+use ada_syntax::{Attribute, ExprNode, Name, Suffix};
 use std::alloc::Global;
+use tree_parts::{Chain, Edged, Ended, ExpressionPart, Parts, Starved, joined, number_of};
 
 /// `Primary = Num`
 fn apply_number(alloc: Global, parts: &mut Parts) -> Result<(), Starved>
     ensures { OnOk result (parts.new ≡ name_rule NameRule.Number parts.old) }
 {
     let token = parts.token();
-    parts.put_expression(
-        alloc,
-        ExpressionPart::Expr(Expr {
-            span: token.span,
-            node: ExprNode::Number(number_of(token.kind)),
-        }),
-    )
+    parts.put_expr(alloc, token.span, ExprNode::Number(number_of(token.kind)))
 }
 
 /// `Primary = null`
@@ -32,27 +21,15 @@ fn apply_null(alloc: Global, parts: &mut Parts) -> Result<(), Starved>
     ensures { OnOk result (parts.new ≡ name_rule NameRule.Null parts.old) }
 {
     let place = parts.place();
-    parts.put_expression(
-        alloc,
-        ExpressionPart::Expr(Expr {
-            span: place,
-            node: ExprNode::Null,
-        }),
-    )
+    parts.put_expr(alloc, place, ExprNode::Null)
 }
 
 /// `Primary = Name`
 fn apply_primary(alloc: Global, parts: &mut Parts) -> Result<(), Starved>
     ensures { OnOk result (parts.new ≡ name_rule NameRule.Primary parts.old) }
 {
-    let name = parts.name(alloc);
-    parts.put_expression(
-        alloc,
-        ExpressionPart::Expr(Expr {
-            span: name.span,
-            node: ExprNode::Name(name),
-        }),
-    )
+    let name = parts.expression().name(alloc);
+    parts.put_expr(alloc, name.span, ExprNode::Name(name))
 }
 
 /// `Primary = ( Args )`
@@ -60,14 +37,12 @@ fn apply_group(alloc: Global, parts: &mut Parts) -> Result<(), Starved>
     ensures { OnOk result (parts.new ≡ name_rule NameRule.Group parts.old) }
 {
     let start = parts.place();
-    let args = parts.args(alloc);
+    let args = parts.item().args(alloc);
     let end = parts.place();
-    parts.put_expression(
+    parts.put_expr(
         alloc,
-        ExpressionPart::Expr(Expr {
-            span: joined(start, end),
-            node: ExprNode::Group(args.into_items()),
-        }),
+        joined(start, end),
+        ExprNode::Group(args.into_items()),
     )
 }
 
@@ -76,15 +51,12 @@ fn apply_name(alloc: Global, parts: &mut Parts) -> Result<(), Starved>
     ensures { OnOk result (parts.new ≡ name_rule NameRule.Name parts.old) }
 {
     let first = parts.place();
-    let suffixes = parts.suffixes(alloc);
-    parts.put_expression(
-        alloc,
-        ExpressionPart::Name(Name {
-            span: joined(first, suffixes.edge.unwrap_or(first)),
-            first,
-            suffixes: suffixes.value.into_items(),
-        }),
-    )
+    let suffixes = parts.expression().suffixes(alloc);
+    parts.put_expression(ExpressionPart::Name(Name {
+        span: joined(first, suffixes.edge.unwrap_or(first)),
+        first,
+        suffixes: suffixes.value.into_items(),
+    }))
 }
 
 /// `Suffix = . Id Suffix`
@@ -93,11 +65,10 @@ fn apply_selected(alloc: Global, parts: &mut Parts) -> Result<(), Starved>
 {
     parts.skip();
     let name = parts.place();
-    let suffixes = parts.suffixes(alloc);
+    let suffixes = parts.expression().suffixes(alloc);
     let edge = Some(suffixes.edge.unwrap_or(name));
-    let mut value = suffixes.value;
-    value.put_first(Suffix::Selected(name))?;
-    parts.put_expression(alloc, ExpressionPart::Suffixes(Edged { value, edge }))
+    let value = suffixes.value.with_first(Suffix::Selected(name))?;
+    parts.put_expression(ExpressionPart::Suffixes(Edged { value, edge }))
 }
 
 /// `Suffix = ' Tick Suffix`
@@ -105,12 +76,13 @@ fn apply_ticked(alloc: Global, parts: &mut Parts) -> Result<(), Starved>
     ensures { OnOk result (parts.new ≡ name_rule NameRule.Ticked parts.old) }
 {
     let place = parts.place();
-    let attribute = parts.attribute();
-    let suffixes = parts.suffixes(alloc);
+    let attribute = parts.expression().attribute();
+    let suffixes = parts.expression().suffixes(alloc);
     let edge = Some(suffixes.edge.unwrap_or(attribute.end));
-    let mut value = suffixes.value;
-    value.put_first(Suffix::Ticked(place, attribute.value))?;
-    parts.put_expression(alloc, ExpressionPart::Suffixes(Edged { value, edge }))
+    let value = suffixes
+        .value
+        .with_first(Suffix::Ticked(place, attribute.value))?;
+    parts.put_expression(ExpressionPart::Suffixes(Edged { value, edge }))
 }
 
 /// `Suffix = ( Args ) Suffix`
@@ -118,13 +90,14 @@ fn apply_applied(alloc: Global, parts: &mut Parts) -> Result<(), Starved>
     ensures { OnOk result (parts.new ≡ name_rule NameRule.Applied parts.old) }
 {
     parts.skip();
-    let args = parts.args(alloc);
+    let args = parts.item().args(alloc);
     let end = parts.place();
-    let suffixes = parts.suffixes(alloc);
+    let suffixes = parts.expression().suffixes(alloc);
     let edge = Some(suffixes.edge.unwrap_or(end));
-    let mut value = suffixes.value;
-    value.put_first(Suffix::Applied(args.into_items()))?;
-    parts.put_expression(alloc, ExpressionPart::Suffixes(Edged { value, edge }))
+    let value = suffixes
+        .value
+        .with_first(Suffix::Applied(args.into_items()))?;
+    parts.put_expression(ExpressionPart::Suffixes(Edged { value, edge }))
 }
 
 /// `Tick = Id`
@@ -132,13 +105,10 @@ fn apply_named_attribute(alloc: Global, parts: &mut Parts) -> Result<(), Starved
     ensures { OnOk result (parts.new ≡ name_rule NameRule.NamedAttribute parts.old) }
 {
     let name = parts.place();
-    parts.put_expression(
-        alloc,
-        ExpressionPart::Attribute(Ended {
-            value: Attribute::Named(name),
-            end: name,
-        }),
-    )
+    parts.put_expression(ExpressionPart::Attribute(Ended {
+        value: Attribute::Named(name),
+        end: name,
+    }))
 }
 
 /// `Tick = range`
@@ -146,13 +116,10 @@ fn apply_range_attribute(alloc: Global, parts: &mut Parts) -> Result<(), Starved
     ensures { OnOk result (parts.new ≡ name_rule NameRule.RangeAttribute parts.old) }
 {
     let place = parts.place();
-    parts.put_expression(
-        alloc,
-        ExpressionPart::Attribute(Ended {
-            value: Attribute::Range,
-            end: place,
-        }),
-    )
+    parts.put_expression(ExpressionPart::Attribute(Ended {
+        value: Attribute::Range,
+        end: place,
+    }))
 }
 
 /// `Tick = ( Args )`
@@ -160,15 +127,12 @@ fn apply_qualified(alloc: Global, parts: &mut Parts) -> Result<(), Starved>
     ensures { OnOk result (parts.new ≡ name_rule NameRule.Qualified parts.old) }
 {
     parts.skip();
-    let args = parts.args(alloc);
+    let args = parts.item().args(alloc);
     let end = parts.place();
-    parts.put_expression(
-        alloc,
-        ExpressionPart::Attribute(Ended {
-            value: Attribute::Qualified(args.into_items()),
-            end,
-        }),
-    )
+    parts.put_expression(ExpressionPart::Attribute(Ended {
+        value: Attribute::Qualified(args.into_items()),
+        end,
+    }))
 }
 
 /// Takes the parts of a production from the front, and puts there what the rule makes of them.
@@ -186,13 +150,10 @@ pub fn apply_name_rule(alloc: Global, rule: NameRule, parts: &mut Parts) -> Resu
         NameRule::Applied => apply_applied(alloc, parts),
         // Suffix =
         NameRule::NoSuffixes => {
-            parts.put_expression(
-                alloc,
-                ExpressionPart::Suffixes(Edged {
-                    value: Chain::new(alloc),
-                    edge: None,
-                }),
-            )
+            parts.put_expression(ExpressionPart::Suffixes(Edged {
+                value: Chain::new(alloc),
+                edge: None,
+            }))
         }
         NameRule::NamedAttribute => apply_named_attribute(alloc, parts),
         NameRule::RangeAttribute => apply_range_attribute(alloc, parts),

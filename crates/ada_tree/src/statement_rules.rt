@@ -3,23 +3,17 @@
 ghost use Rattle.std.specs.Prelude.{◌≡◌, OnOk};
 ghost use Rattle.ada_tree.specs.Statements.{statement_rule};
 
-use crate::chain::Chain;
-use crate::operations::joined;
-use crate::part::{ChoicePart, Edged, StatementPart};
-use crate::parts::Parts;
-use crate::relations::named_action;
 use crate::rules::StatementRule;
-use ada_syntax::{Action, Alternative, Branch, Choice, LoopHead, Stmt};
-use grammar_table::Starved;
+use ada_syntax::{Action, Alternative, Branch, Choice, LoopHead};
 use std::alloc::Global;
+use tree_parts::{Chain, ChoicePart, Edged, Parts, Starved, StatementPart, joined, named_action};
 
 /// `Stmts = Stmt StMore | StMore = Stmt StMore`
 fn apply_stmts(alloc: Global, parts: &mut Parts) -> Result<(), Starved>
     ensures { OnOk result (parts.new ≡ statement_rule StatementRule.Stmts parts.old) }
 {
-    let stmt = parts.stmt();
-    let mut stmts = parts.stmts(alloc);
-    stmts.put_first(stmt)?;
+    let stmt = parts.statement(alloc).stmt(alloc)?;
+    let stmts = parts.statement(alloc).stmts(alloc).with_first(stmt)?;
     parts.put_statement(alloc, StatementPart::Stmts(stmts))
 }
 
@@ -29,29 +23,17 @@ fn apply_null(alloc: Global, parts: &mut Parts) -> Result<(), Starved>
 {
     let start = parts.place();
     let end = parts.place();
-    parts.put_statement(
-        alloc,
-        StatementPart::Stmt(Stmt {
-            span: joined(start, end),
-            action: Action::Null,
-        }),
-    )
+    parts.put_stmt(alloc, joined(start, end), Action::Null)
 }
 
 /// `Stmt = Name Act ;`
 fn apply_name(alloc: Global, parts: &mut Parts) -> Result<(), Starved>
     ensures { OnOk result (parts.new ≡ statement_rule StatementRule.Name parts.old) }
 {
-    let name = parts.name(alloc);
-    let value = parts.optional_expr();
+    let name = parts.expression().name(alloc);
+    let value = parts.item().optional_expr();
     let end = parts.place();
-    parts.put_statement(
-        alloc,
-        StatementPart::Stmt(Stmt {
-            span: joined(name.span, end),
-            action: named_action(name, value),
-        }),
-    )
+    parts.put_stmt(alloc, joined(name.span, end), named_action(name, value))
 }
 
 /// `Stmt = if Expr then Stmts Elsifs Else end if ;`
@@ -59,24 +41,22 @@ fn apply_if(alloc: Global, parts: &mut Parts) -> Result<(), Starved>
     ensures { OnOk result (parts.new ≡ statement_rule StatementRule.If parts.old) }
 {
     let start = parts.place();
-    let condition = parts.expr();
+    let condition = parts.expression().expr(alloc)?;
     parts.skip();
-    let stmts = parts.stmts(alloc);
-    let mut branches = parts.branches(alloc);
-    let otherwise = parts.stmts(alloc);
+    let stmts = parts.statement(alloc).stmts(alloc);
+    let branches = parts.statement(alloc).branches(alloc);
+    let otherwise = parts.statement(alloc).stmts(alloc);
     parts.skip();
     parts.skip();
     let end = parts.place();
-    branches.put_first(Branch {
+    let branches = branches.with_first(Branch {
         condition,
         body: stmts.into_items(),
     })?;
-    parts.put_statement(
+    parts.put_stmt(
         alloc,
-        StatementPart::Stmt(Stmt {
-            span: joined(start, end),
-            action: Action::If(branches.into_items(), otherwise.into_items()),
-        }),
+        joined(start, end),
+        Action::If(branches.into_items(), otherwise.into_items()),
     )
 }
 
@@ -85,20 +65,18 @@ fn apply_case(alloc: Global, parts: &mut Parts) -> Result<(), Starved>
     ensures { OnOk result (parts.new ≡ statement_rule StatementRule.Case parts.old) }
 {
     let start = parts.place();
-    let selector = parts.expr();
+    let selector = parts.expression().expr(alloc)?;
     parts.skip();
-    let first = parts.alternative(alloc);
-    let mut alternatives = parts.alternatives(alloc);
+    let first = parts.statement(alloc).alternative(alloc);
+    let alternatives = parts.statement(alloc).alternatives(alloc);
     parts.skip();
     parts.skip();
     let end = parts.place();
-    alternatives.put_first(first)?;
-    parts.put_statement(
+    let alternatives = alternatives.with_first(first)?;
+    parts.put_stmt(
         alloc,
-        StatementPart::Stmt(Stmt {
-            span: joined(start, end),
-            action: Action::Case(selector, alternatives.into_items()),
-        }),
+        joined(start, end),
+        Action::Case(selector, alternatives.into_items()),
     )
 }
 
@@ -106,18 +84,16 @@ fn apply_case(alloc: Global, parts: &mut Parts) -> Result<(), Starved>
 fn apply_loop(alloc: Global, parts: &mut Parts) -> Result<(), Starved>
     ensures { OnOk result (parts.new ≡ statement_rule StatementRule.Loop parts.old) }
 {
-    let head = parts.loop_head();
+    let head = parts.choice().loop_head();
     let start = parts.place();
-    let stmts = parts.stmts(alloc);
+    let stmts = parts.statement(alloc).stmts(alloc);
     parts.skip();
     parts.skip();
     let end = parts.place();
-    parts.put_statement(
+    parts.put_stmt(
         alloc,
-        StatementPart::Stmt(Stmt {
-            span: joined(head.edge.unwrap_or(start), end),
-            action: Action::Loop(head.value, stmts.into_items()),
-        }),
+        joined(head.edge.unwrap_or(start), end),
+        Action::Loop(head.value, stmts.into_items()),
     )
 }
 
@@ -126,15 +102,9 @@ fn apply_exit(alloc: Global, parts: &mut Parts) -> Result<(), Starved>
     ensures { OnOk result (parts.new ≡ statement_rule StatementRule.Exit parts.old) }
 {
     let start = parts.place();
-    let condition = parts.optional_expr();
+    let condition = parts.item().optional_expr();
     let end = parts.place();
-    parts.put_statement(
-        alloc,
-        StatementPart::Stmt(Stmt {
-            span: joined(start, end),
-            action: Action::Exit(condition),
-        }),
-    )
+    parts.put_stmt(alloc, joined(start, end), Action::Exit(condition))
 }
 
 /// `Stmt = return RetVal ;`
@@ -142,29 +112,17 @@ fn apply_return(alloc: Global, parts: &mut Parts) -> Result<(), Starved>
     ensures { OnOk result (parts.new ≡ statement_rule StatementRule.Return parts.old) }
 {
     let start = parts.place();
-    let value = parts.optional_expr();
+    let value = parts.item().optional_expr();
     let end = parts.place();
-    parts.put_statement(
-        alloc,
-        StatementPart::Stmt(Stmt {
-            span: joined(start, end),
-            action: Action::Return(value),
-        }),
-    )
+    parts.put_stmt(alloc, joined(start, end), Action::Return(value))
 }
 
 /// `Stmt = Pragma`
 fn apply_stmt_pragma(alloc: Global, parts: &mut Parts) -> Result<(), Starved>
     ensures { OnOk result (parts.new ≡ statement_rule StatementRule.StmtPragma parts.old) }
 {
-    let pragma = parts.pragma(alloc);
-    parts.put_statement(
-        alloc,
-        StatementPart::Stmt(Stmt {
-            span: pragma.span,
-            action: Action::Pragma(pragma),
-        }),
-    )
+    let pragma = parts.declaration().pragma(alloc);
+    parts.put_stmt(alloc, pragma.span, Action::Pragma(pragma))
 }
 
 /// `Elsifs = elsif Expr then Stmts Elsifs`
@@ -172,11 +130,10 @@ fn apply_branches(alloc: Global, parts: &mut Parts) -> Result<(), Starved>
     ensures { OnOk result (parts.new ≡ statement_rule StatementRule.Branches parts.old) }
 {
     parts.skip();
-    let condition = parts.expr();
+    let condition = parts.expression().expr(alloc)?;
     parts.skip();
-    let stmts = parts.stmts(alloc);
-    let mut branches = parts.branches(alloc);
-    branches.put_first(Branch {
+    let stmts = parts.statement(alloc).stmts(alloc);
+    let branches = parts.statement(alloc).branches(alloc).with_first(Branch {
         condition,
         body: stmts.into_items(),
     })?;
@@ -188,11 +145,11 @@ fn apply_alternative(alloc: Global, parts: &mut Parts) -> Result<(), Starved>
     ensures { OnOk result (parts.new ≡ statement_rule StatementRule.Alternative parts.old) }
 {
     parts.skip();
-    let choice = parts.choice();
-    let mut choices = parts.choices(alloc);
+    let choice = parts.choice().choice();
+    let choices = parts.choice().choices(alloc);
     parts.skip();
-    let stmts = parts.stmts(alloc);
-    choices.put_first(choice)?;
+    let stmts = parts.statement(alloc).stmts(alloc);
+    let choices = choices.with_first(choice)?;
     parts.put_statement(
         alloc,
         StatementPart::Alternative(Alternative {
@@ -206,9 +163,11 @@ fn apply_alternative(alloc: Global, parts: &mut Parts) -> Result<(), Starved>
 fn apply_alternatives(alloc: Global, parts: &mut Parts) -> Result<(), Starved>
     ensures { OnOk result (parts.new ≡ statement_rule StatementRule.Alternatives parts.old) }
 {
-    let alternative = parts.alternative(alloc);
-    let mut alternatives = parts.alternatives(alloc);
-    alternatives.put_first(alternative)?;
+    let alternative = parts.statement(alloc).alternative(alloc);
+    let alternatives = parts
+        .statement(alloc)
+        .alternatives(alloc)
+        .with_first(alternative)?;
     parts.put_statement(alloc, StatementPart::Alternatives(alternatives))
 }
 
@@ -224,7 +183,7 @@ fn apply_choice_others(alloc: Global, parts: &mut Parts) -> Result<(), Starved>
 fn apply_choice_range(alloc: Global, parts: &mut Parts) -> Result<(), Starved>
     ensures { OnOk result (parts.new ≡ statement_rule StatementRule.ChoiceRange parts.old) }
 {
-    let range = parts.range();
+    let range = parts.item().range(alloc)?;
     parts.put_choice(alloc, ChoicePart::Choice(Choice::Range(range)))
 }
 
@@ -233,9 +192,8 @@ fn apply_choices(alloc: Global, parts: &mut Parts) -> Result<(), Starved>
     ensures { OnOk result (parts.new ≡ statement_rule StatementRule.Choices parts.old) }
 {
     parts.skip();
-    let choice = parts.choice();
-    let mut choices = parts.choices(alloc);
-    choices.put_first(choice)?;
+    let choice = parts.choice().choice();
+    let choices = parts.choice().choices(alloc).with_first(choice)?;
     parts.put_choice(alloc, ChoicePart::Choices(choices))
 }
 
@@ -244,7 +202,7 @@ fn apply_while(alloc: Global, parts: &mut Parts) -> Result<(), Starved>
     ensures { OnOk result (parts.new ≡ statement_rule StatementRule.While parts.old) }
 {
     let start = parts.place();
-    let condition = parts.expr();
+    let condition = parts.expression().expr(alloc)?;
     parts.put_choice(
         alloc,
         ChoicePart::LoopHead(Edged {
@@ -261,8 +219,8 @@ fn apply_for(alloc: Global, parts: &mut Parts) -> Result<(), Starved>
     let start = parts.place();
     let name = parts.place();
     parts.skip();
-    let reverse = parts.flag();
-    let range = parts.range();
+    let reverse = parts.choice().flag();
+    let range = parts.item().range(alloc)?;
     parts.put_choice(
         alloc,
         ChoicePart::LoopHead(Edged {

@@ -3,15 +3,10 @@
 ghost use Rattle.std.specs.Prelude.{◌≡◌, OnOk};
 ghost use Rattle.ada_tree.specs.Subprograms.{subprogram_rule};
 
-use crate::chain::Chain;
-use crate::ends::item_end;
-use crate::operations::joined;
-use crate::part::{DeclarationPart, Ended, SubprogramPart};
-use crate::parts::Parts;
 use crate::rules::SubprogramRule;
 use ada_syntax::{Aspect, Body, Mode, Param, Pragma, Sub};
-use grammar_table::Starved;
 use std::alloc::Global;
+use tree_parts::{Chain, DeclarationPart, Ended, Parts, Starved, SubprogramPart, item_end, joined};
 
 /// `Sub = procedure Id Params Asp Body`
 fn apply_procedure(alloc: Global, parts: &mut Parts) -> Result<(), Starved>
@@ -19,9 +14,9 @@ fn apply_procedure(alloc: Global, parts: &mut Parts) -> Result<(), Starved>
 {
     let start = parts.place();
     let name = parts.place();
-    let params = parts.params(alloc);
-    let aspects = parts.aspects(alloc);
-    let body = parts.body();
+    let params = parts.subprogram().params(alloc);
+    let aspects = parts.subprogram().aspects(alloc);
+    let body = parts.declaration().body();
     parts.put_declaration(
         alloc,
         DeclarationPart::Sub(Sub {
@@ -41,11 +36,11 @@ fn apply_function(alloc: Global, parts: &mut Parts) -> Result<(), Starved>
 {
     let start = parts.place();
     let name = parts.place();
-    let params = parts.params(alloc);
+    let params = parts.subprogram().params(alloc);
     parts.skip();
-    let mark = parts.name(alloc);
-    let aspects = parts.aspects(alloc);
-    let body = parts.body();
+    let mark = parts.expression().name(alloc);
+    let aspects = parts.subprogram().aspects(alloc);
+    let body = parts.declaration().body();
     parts.put_declaration(
         alloc,
         DeclarationPart::Sub(Sub {
@@ -64,10 +59,10 @@ fn apply_param_group(alloc: Global, parts: &mut Parts) -> Result<(), Starved>
     ensures { OnOk result (parts.new ≡ subprogram_rule SubprogramRule.ParamGroup parts.old) }
 {
     parts.skip();
-    let param = parts.param(alloc);
-    let mut params = parts.params(alloc);
+    let param = parts.subprogram().param(alloc);
+    let params = parts.subprogram().params(alloc);
     parts.skip();
-    params.put_first(param)?;
+    let params = params.with_first(param)?;
     parts.put_subprogram(alloc, SubprogramPart::Params(params))
 }
 
@@ -76,9 +71,8 @@ fn apply_params(alloc: Global, parts: &mut Parts) -> Result<(), Starved>
     ensures { OnOk result (parts.new ≡ subprogram_rule SubprogramRule.Params parts.old) }
 {
     parts.skip();
-    let param = parts.param(alloc);
-    let mut params = parts.params(alloc);
-    params.put_first(param)?;
+    let param = parts.subprogram().param(alloc);
+    let params = parts.subprogram().params(alloc).with_first(param)?;
     parts.put_subprogram(alloc, SubprogramPart::Params(params))
 }
 
@@ -87,11 +81,11 @@ fn apply_param(alloc: Global, parts: &mut Parts) -> Result<(), Starved>
     ensures { OnOk result (parts.new ≡ subprogram_rule SubprogramRule.Param parts.old) }
 {
     let name = parts.place();
-    let mut names = parts.names(alloc);
+    let names = parts.unit().names(alloc);
     parts.skip();
-    let mode = parts.mode();
-    let subtype = parts.sub_ind(alloc);
-    names.put_first(name)?;
+    let mode = parts.subprogram().mode();
+    let subtype = parts.type_part().sub_ind(alloc);
+    let names = names.with_first(name)?;
     parts.put_subprogram(
         alloc,
         SubprogramPart::Param(Param {
@@ -132,11 +126,11 @@ fn apply_some_body(alloc: Global, parts: &mut Parts) -> Result<(), Starved>
     ensures { OnOk result (parts.new ≡ subprogram_rule SubprogramRule.SomeBody parts.old) }
 {
     parts.skip();
-    let decls = parts.decls(alloc);
+    let decls = parts.declaration().decls(alloc);
     parts.skip();
-    let stmts = parts.stmts(alloc);
+    let stmts = parts.statement(alloc).stmts(alloc);
     parts.skip();
-    let end_name = parts.end_name();
+    let end_name = parts.unit().end_name();
     let end = parts.place();
     parts.put_declaration(
         alloc,
@@ -156,9 +150,8 @@ fn apply_aspects(alloc: Global, parts: &mut Parts) -> Result<(), Starved>
     ensures { OnOk result (parts.new ≡ subprogram_rule SubprogramRule.Aspects parts.old) }
 {
     parts.skip();
-    let aspect = parts.aspect();
-    let mut aspects = parts.aspects(alloc);
-    aspects.put_first(aspect)?;
+    let aspect = parts.subprogram().aspect();
+    let aspects = parts.subprogram().aspects(alloc).with_first(aspect)?;
     parts.put_subprogram(alloc, SubprogramPart::Aspects(aspects))
 }
 
@@ -167,7 +160,7 @@ fn apply_aspect(alloc: Global, parts: &mut Parts) -> Result<(), Starved>
     ensures { OnOk result (parts.new ≡ subprogram_rule SubprogramRule.Aspect parts.old) }
 {
     let name = parts.place();
-    let value = parts.optional_item();
+    let value = parts.item().optional_item();
     parts.put_subprogram(
         alloc,
         SubprogramPart::Aspect(Aspect {
@@ -184,7 +177,7 @@ fn apply_pragma(alloc: Global, parts: &mut Parts) -> Result<(), Starved>
 {
     let start = parts.place();
     let name = parts.place();
-    let args = parts.args(alloc);
+    let args = parts.item().args(alloc);
     let end = parts.place();
     parts.put_declaration(
         alloc,

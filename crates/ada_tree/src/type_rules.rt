@@ -3,30 +3,23 @@
 ghost use Rattle.std.specs.Prelude.{◌≡◌, OnOk};
 ghost use Rattle.ada_tree.specs.Types.{type_rule};
 
-use crate::chain::Chain;
-use crate::ends::bounds_end;
-use crate::operations::joined;
-use crate::part::TypePart;
-use crate::parts::Parts;
 use crate::rules::TypeRule;
-use ada_syntax::{Bounds, Component, Index, IndexForm, SubInd, TypeDef, TypeForm};
-use grammar_table::Starved;
+use ada_syntax::{Bounds, Component, Index, IndexForm, SubInd, TypeForm};
 use std::alloc::Global;
+use tree_parts::{Chain, Parts, Starved, TypePart, bounds_end, joined};
 
 /// `TypeDef = range Simple .. Simple`
 fn apply_range(alloc: Global, parts: &mut Parts) -> Result<(), Starved>
     ensures { OnOk result (parts.new ≡ type_rule TypeRule.Range parts.old) }
 {
     let start = parts.place();
-    let low = parts.expr();
+    let low = parts.expression().expr(alloc)?;
     parts.skip();
-    let high = parts.expr();
-    parts.put_type(
+    let high = parts.expression().expr(alloc)?;
+    parts.put_type_def(
         alloc,
-        TypePart::TypeDef(TypeDef {
-            span: joined(start, high.span),
-            form: TypeForm::Range(Bounds { low, high }),
-        }),
+        joined(start, high.span),
+        TypeForm::Range(Bounds { low, high }),
     )
 }
 
@@ -35,13 +28,11 @@ fn apply_modular(alloc: Global, parts: &mut Parts) -> Result<(), Starved>
     ensures { OnOk result (parts.new ≡ type_rule TypeRule.Modular parts.old) }
 {
     let start = parts.place();
-    let modulus = parts.expr();
-    parts.put_type(
+    let modulus = parts.expression().expr(alloc)?;
+    parts.put_type_def(
         alloc,
-        TypePart::TypeDef(TypeDef {
-            span: joined(start, modulus.span),
-            form: TypeForm::Modular(modulus),
-        }),
+        joined(start, modulus.span),
+        TypeForm::Modular(modulus),
     )
 }
 
@@ -51,15 +42,13 @@ fn apply_enumeration(alloc: Global, parts: &mut Parts) -> Result<(), Starved>
 {
     let start = parts.place();
     let name = parts.place();
-    let mut names = parts.names(alloc);
+    let names = parts.unit().names(alloc);
     let end = parts.place();
-    names.put_first(name)?;
-    parts.put_type(
+    let names = names.with_first(name)?;
+    parts.put_type_def(
         alloc,
-        TypePart::TypeDef(TypeDef {
-            span: joined(start, end),
-            form: TypeForm::Enumeration(names.into_items()),
-        }),
+        joined(start, end),
+        TypeForm::Enumeration(names.into_items()),
     )
 }
 
@@ -69,16 +58,14 @@ fn apply_array(alloc: Global, parts: &mut Parts) -> Result<(), Starved>
 {
     let start = parts.place();
     parts.skip();
-    let index = parts.index();
+    let index = parts.type_part().index(alloc)?;
     parts.skip();
     parts.skip();
-    let item = parts.sub_ind(alloc);
-    parts.put_type(
+    let item = parts.type_part().sub_ind(alloc);
+    parts.put_type_def(
         alloc,
-        TypePart::TypeDef(TypeDef {
-            span: joined(start, item.span),
-            form: TypeForm::Array(index, item),
-        }),
+        joined(start, item.span),
+        TypeForm::Array(index, item),
     )
 }
 
@@ -87,17 +74,15 @@ fn apply_record(alloc: Global, parts: &mut Parts) -> Result<(), Starved>
     ensures { OnOk result (parts.new ≡ type_rule TypeRule.Record parts.old) }
 {
     let start = parts.place();
-    let first = parts.component(alloc);
-    let mut components = parts.components(alloc);
+    let first = parts.type_part().component(alloc);
+    let components = parts.type_part().components(alloc);
     parts.skip();
     let end = parts.place();
-    components.put_first(first)?;
-    parts.put_type(
+    let components = components.with_first(first)?;
+    parts.put_type_def(
         alloc,
-        TypePart::TypeDef(TypeDef {
-            span: joined(start, end),
-            form: TypeForm::Record(components.into_items()),
-        }),
+        joined(start, end),
+        TypeForm::Record(components.into_items()),
     )
 }
 
@@ -106,22 +91,16 @@ fn apply_derived(alloc: Global, parts: &mut Parts) -> Result<(), Starved>
     ensures { OnOk result (parts.new ≡ type_rule TypeRule.Derived parts.old) }
 {
     let start = parts.place();
-    let parent = parts.sub_ind(alloc);
-    parts.put_type(
-        alloc,
-        TypePart::TypeDef(TypeDef {
-            span: joined(start, parent.span),
-            form: TypeForm::Derived(parent),
-        }),
-    )
+    let parent = parts.type_part().sub_ind(alloc);
+    parts.put_type_def(alloc, joined(start, parent.span), TypeForm::Derived(parent))
 }
 
 /// `Index = Simple IdxTail`
 fn apply_index(alloc: Global, parts: &mut Parts) -> Result<(), Starved>
     ensures { OnOk result (parts.new ≡ type_rule TypeRule.Index parts.old) }
 {
-    let first = parts.expr();
-    let form = parts.index_form();
+    let first = parts.expression().expr(alloc)?;
+    let form = parts.type_part().index_form();
     parts.put_type(alloc, TypePart::Index(Index { first, form }))
 }
 
@@ -130,7 +109,7 @@ fn apply_index_up_to(alloc: Global, parts: &mut Parts) -> Result<(), Starved>
     ensures { OnOk result (parts.new ≡ type_rule TypeRule.IndexUpTo parts.old) }
 {
     parts.skip();
-    let high = parts.expr();
+    let high = parts.expression().expr(alloc)?;
     parts.put_type(alloc, TypePart::IndexForm(IndexForm::UpTo(high)))
 }
 
@@ -146,9 +125,9 @@ fn apply_index_unconstrained(alloc: Global, parts: &mut Parts) -> Result<(), Sta
 fn apply_index_within(alloc: Global, parts: &mut Parts) -> Result<(), Starved>
     ensures { OnOk result (parts.new ≡ type_rule TypeRule.IndexWithin parts.old) }
 {
-    let low = parts.expr();
+    let low = parts.expression().expr(alloc)?;
     parts.skip();
-    let high = parts.expr();
+    let high = parts.expression().expr(alloc)?;
     parts.put_type(
         alloc,
         TypePart::IndexForm(IndexForm::Within(Bounds { low, high })),
@@ -160,11 +139,11 @@ fn apply_component(alloc: Global, parts: &mut Parts) -> Result<(), Starved>
     ensures { OnOk result (parts.new ≡ type_rule TypeRule.Component parts.old) }
 {
     let name = parts.place();
-    let mut names = parts.names(alloc);
+    let names = parts.unit().names(alloc);
     parts.skip();
-    let subtype = parts.sub_ind(alloc);
+    let subtype = parts.type_part().sub_ind(alloc);
     let end = parts.place();
-    names.put_first(name)?;
+    let names = names.with_first(name)?;
     parts.put_type(
         alloc,
         TypePart::Component(Component {
@@ -179,9 +158,8 @@ fn apply_component(alloc: Global, parts: &mut Parts) -> Result<(), Starved>
 fn apply_components(alloc: Global, parts: &mut Parts) -> Result<(), Starved>
     ensures { OnOk result (parts.new ≡ type_rule TypeRule.Components parts.old) }
 {
-    let component = parts.component(alloc);
-    let mut components = parts.components(alloc);
-    components.put_first(component)?;
+    let component = parts.type_part().component(alloc);
+    let components = parts.type_part().components(alloc).with_first(component)?;
     parts.put_type(alloc, TypePart::Components(components))
 }
 
@@ -189,8 +167,8 @@ fn apply_components(alloc: Global, parts: &mut Parts) -> Result<(), Starved>
 fn apply_sub_ind(alloc: Global, parts: &mut Parts) -> Result<(), Starved>
     ensures { OnOk result (parts.new ≡ type_rule TypeRule.SubInd parts.old) }
 {
-    let name = parts.name(alloc);
-    let bounds = parts.bounds();
+    let name = parts.expression().name(alloc);
+    let bounds = parts.type_part().bounds();
     parts.put_type(
         alloc,
         TypePart::SubInd(SubInd {
@@ -206,9 +184,9 @@ fn apply_some_bounds(alloc: Global, parts: &mut Parts) -> Result<(), Starved>
     ensures { OnOk result (parts.new ≡ type_rule TypeRule.SomeBounds parts.old) }
 {
     parts.skip();
-    let low = parts.expr();
+    let low = parts.expression().expr(alloc)?;
     parts.skip();
-    let high = parts.expr();
+    let high = parts.expression().expr(alloc)?;
     parts.put_type(alloc, TypePart::Bounds(Some(Bounds { low, high })))
 }
 

@@ -3,21 +3,17 @@
 ghost use Rattle.std.specs.Prelude.{◌≡◌, OnOk};
 ghost use Rattle.ada_tree.specs.Units.{unit_rule};
 
-use crate::chain::Chain;
-use crate::operations::joined;
-use crate::part::{Edged, UnitPart};
-use crate::parts::Parts;
 use crate::rules::UnitRule;
 use ada_syntax::{ContextItem, Package, PackageBody, SourceUnit, Unit, UnitForm};
-use grammar_table::Starved;
 use std::alloc::Global;
+use tree_parts::{Chain, Edged, Parts, Starved, UnitPart, joined};
 
 /// `File = Start Unit`
 fn apply_file(alloc: Global, parts: &mut Parts) -> Result<(), Starved>
     ensures { OnOk result (parts.new ≡ unit_rule UnitRule.File parts.old) }
 {
-    let context = parts.context(alloc);
-    let unit = parts.unit(alloc);
+    let context = parts.unit().context(alloc);
+    let unit = parts.unit().unit(alloc)?;
     parts.put_unit(
         alloc,
         UnitPart::SourceUnit(SourceUnit {
@@ -34,12 +30,13 @@ fn apply_context_with(alloc: Global, parts: &mut Parts) -> Result<(), Starved>
 {
     let start = parts.place();
     let name = parts.place();
-    let mut names = parts.names(alloc);
+    let names = parts.unit().names(alloc);
     parts.skip();
-    let context = parts.context(alloc);
-    names.put_first(name)?;
-    let mut value = context.value;
-    value.put_first(ContextItem::With(names.into_items()))?;
+    let context = parts.unit().context(alloc);
+    let names = names.with_first(name)?;
+    let value = context
+        .value
+        .with_first(ContextItem::With(names.into_items()))?;
     parts.put_unit(
         alloc,
         UnitPart::Context(Edged {
@@ -55,12 +52,13 @@ fn apply_context_use(alloc: Global, parts: &mut Parts) -> Result<(), Starved>
 {
     let start = parts.place();
     let name = parts.place();
-    let mut names = parts.names(alloc);
+    let names = parts.unit().names(alloc);
     parts.skip();
-    let context = parts.context(alloc);
-    names.put_first(name)?;
-    let mut value = context.value;
-    value.put_first(ContextItem::Use(names.into_items()))?;
+    let context = parts.unit().context(alloc);
+    let names = names.with_first(name)?;
+    let value = context
+        .value
+        .with_first(ContextItem::Use(names.into_items()))?;
     parts.put_unit(
         alloc,
         UnitPart::Context(Edged {
@@ -74,11 +72,10 @@ fn apply_context_use(alloc: Global, parts: &mut Parts) -> Result<(), Starved>
 fn apply_context_pragma(alloc: Global, parts: &mut Parts) -> Result<(), Starved>
     ensures { OnOk result (parts.new ≡ unit_rule UnitRule.ContextPragma parts.old) }
 {
-    let pragma = parts.pragma(alloc);
-    let context = parts.context(alloc);
+    let pragma = parts.declaration().pragma(alloc);
+    let context = parts.unit().context(alloc);
     let start = pragma.span;
-    let mut value = context.value;
-    value.put_first(ContextItem::Pragma(pragma))?;
+    let value = context.value.with_first(ContextItem::Pragma(pragma))?;
     parts.put_unit(
         alloc,
         UnitPart::Context(Edged {
@@ -94,8 +91,7 @@ fn apply_names(alloc: Global, parts: &mut Parts) -> Result<(), Starved>
 {
     parts.skip();
     let name = parts.place();
-    let mut names = parts.names(alloc);
-    names.put_first(name)?;
+    let names = parts.unit().names(alloc).with_first(name)?;
     parts.put_unit(alloc, UnitPart::Names(names))
 }
 
@@ -104,7 +100,7 @@ fn apply_unit_package(alloc: Global, parts: &mut Parts) -> Result<(), Starved>
     ensures { OnOk result (parts.new ≡ unit_rule UnitRule.UnitPackage parts.old) }
 {
     let start = parts.place();
-    let Unit { span, form } = parts.unit(alloc);
+    let Unit { span, form } = parts.unit().unit(alloc)?;
     parts.put_unit(
         alloc,
         UnitPart::Unit(Unit {
@@ -118,14 +114,8 @@ fn apply_unit_package(alloc: Global, parts: &mut Parts) -> Result<(), Starved>
 fn apply_unit_sub(alloc: Global, parts: &mut Parts) -> Result<(), Starved>
     ensures { OnOk result (parts.new ≡ unit_rule UnitRule.UnitSub parts.old) }
 {
-    let sub = parts.sub(alloc);
-    parts.put_unit(
-        alloc,
-        UnitPart::Unit(Unit {
-            span: sub.span,
-            form: UnitForm::Sub(sub),
-        }),
-    )
+    let sub = parts.declaration().sub(alloc);
+    parts.put_formed_unit(alloc, sub.span, UnitForm::Sub(sub))
 }
 
 /// `Pack = body Id Asp is Decls end EndId ;`
@@ -134,22 +124,20 @@ fn apply_package_body(alloc: Global, parts: &mut Parts) -> Result<(), Starved>
 {
     let start = parts.place();
     let name = parts.place();
-    let aspects = parts.aspects(alloc);
+    let aspects = parts.subprogram().aspects(alloc);
     parts.skip();
-    let decls = parts.decls(alloc);
+    let decls = parts.declaration().decls(alloc);
     parts.skip();
-    let end_name = parts.end_name();
+    let end_name = parts.unit().end_name();
     let end = parts.place();
-    parts.put_unit(
+    parts.put_formed_unit(
         alloc,
-        UnitPart::Unit(Unit {
-            span: joined(start, end),
-            form: UnitForm::PackageBody(PackageBody {
-                name,
-                aspects: aspects.into_items(),
-                declarations: decls.into_items(),
-                end_name,
-            }),
+        joined(start, end),
+        UnitForm::PackageBody(PackageBody {
+            name,
+            aspects: aspects.into_items(),
+            declarations: decls.into_items(),
+            end_name,
         }),
     )
 }
@@ -159,24 +147,22 @@ fn apply_package_spec(alloc: Global, parts: &mut Parts) -> Result<(), Starved>
     ensures { OnOk result (parts.new ≡ unit_rule UnitRule.PackageSpec parts.old) }
 {
     let name = parts.place();
-    let aspects = parts.aspects(alloc);
+    let aspects = parts.subprogram().aspects(alloc);
     parts.skip();
-    let decls = parts.decls(alloc);
-    let private = parts.private();
+    let decls = parts.declaration().decls(alloc);
+    let private = parts.unit().private();
     parts.skip();
-    let end_name = parts.end_name();
+    let end_name = parts.unit().end_name();
     let end = parts.place();
-    parts.put_unit(
+    parts.put_formed_unit(
         alloc,
-        UnitPart::Unit(Unit {
-            span: joined(name, end),
-            form: UnitForm::Package(Package {
-                name,
-                aspects: aspects.into_items(),
-                declarations: decls.into_items(),
-                private,
-                end_name,
-            }),
+        joined(name, end),
+        UnitForm::Package(Package {
+            name,
+            aspects: aspects.into_items(),
+            declarations: decls.into_items(),
+            private,
+            end_name,
         }),
     )
 }
@@ -186,7 +172,7 @@ fn apply_some_private(alloc: Global, parts: &mut Parts) -> Result<(), Starved>
     ensures { OnOk result (parts.new ≡ unit_rule UnitRule.SomePrivate parts.old) }
 {
     parts.skip();
-    let decls = parts.decls(alloc);
+    let decls = parts.declaration().decls(alloc);
     parts.put_unit(alloc, UnitPart::Private(Some(decls.into_items())))
 }
 
