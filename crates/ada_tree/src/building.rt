@@ -67,5 +67,6 @@ pub fn build(
 {
     let moves = weave(alloc, &spark_grammar(), derivation.productions.as_slice())?;
     let mut parts = parts_of(alloc, moves, tokens.as_slice())?;
-    parts.unit().source_unit(alloc)
+    let tree = parts.unit().source_unit(alloc)?;
+    Ok(tree)
 }
