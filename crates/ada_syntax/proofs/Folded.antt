@@ -35,78 +35,78 @@ group_map m f g h xs = ap (λ (z : Words). symbol del.Open ++ z ++ symbol del.Cl
 if_map : {A B : Type 0} (m : A → B) (f : B → Words) (g : A → Words) → ((x : A) → f (m x) ≡ g x) → (xs : List A) (rest : Words) → word res.If ++ separated (word res.Elsif) f (map m xs) ++ rest ≡ word res.If ++ separated (word res.Elsif) g xs ++ rest
 if_map m f g h xs rest = ap (λ (z : Words). word res.If ++ z ++ rest) (separated_map (word res.Elsif) m f g h xs)
 
-item_23 : (s : Span) (f : ItemForm Expr) → item_words (λ w. w) ((shapes.former-Expr-node-at-23).map Expr Words expr (record { span = s; form = f })) ≡ item_form expr f
-item_23 s (itm.Plain e) = refl
-item_23 s (itm.If as' None) = if_map _ _ _ (λ a. refl) as' _
-item_23 s (itm.If as' (Some e)) = if_map _ _ _ (λ a. refl) as' _
-item_23 s (itm.Quantified q n r p) = elim (r.high) as (λ (h : Option Expr). item_words (λ w. w) ((shapes.former-Expr-node-at-23).map Expr Words expr (record { span = s; form = itm.Quantified q n (record { low = r.low; high = h }) p })) ≡ item_form expr (itm.Quantified q n (record { low = r.low; high = h }) p)) [ None ↦ refl | Some h ↦ refl ]
+item_24 : (s : Span) (f : ItemForm Expr) → item_words (λ w. w) ((shapes.former-Expr-node-at-24).map Expr Words expr (record { span = s; form = f })) ≡ item_form expr f
+item_24 s (itm.Plain e) = refl
+item_24 s (itm.If as' None) = if_map _ _ _ (λ a. refl) as' _
+item_24 s (itm.If as' (Some e)) = if_map _ _ _ (λ a. refl) as' _
+item_24 s (itm.Quantified q n r p) = elim (r.high) as (λ (h : Option Expr). item_words (λ w. w) ((shapes.former-Expr-node-at-24).map Expr Words expr (record { span = s; form = itm.Quantified q n (record { low = r.low; high = h }) p })) ≡ item_form expr (itm.Quantified q n (record { low = r.low; high = h }) p)) [ None ↦ refl | Some h ↦ refl ]
 
-item_43 : (s : Span) (f : ItemForm Expr) → item_words (λ w. w) ((shapes.former-Expr-node-at-43).map Expr Words expr (record { span = s; form = f })) ≡ item_form expr f
-item_43 s (itm.Plain e) = refl
-item_43 s (itm.If as' None) = if_map _ _ _ (λ a. refl) as' _
-item_43 s (itm.If as' (Some e)) = if_map _ _ _ (λ a. refl) as' _
-item_43 s (itm.Quantified q n r p) = elim (r.high) as (λ (h : Option Expr). item_words (λ w. w) ((shapes.former-Expr-node-at-43).map Expr Words expr (record { span = s; form = itm.Quantified q n (record { low = r.low; high = h }) p })) ≡ item_form expr (itm.Quantified q n (record { low = r.low; high = h }) p)) [ None ↦ refl | Some h ↦ refl ]
+item_45 : (s : Span) (f : ItemForm Expr) → item_words (λ w. w) ((shapes.former-Expr-node-at-45).map Expr Words expr (record { span = s; form = f })) ≡ item_form expr f
+item_45 s (itm.Plain e) = refl
+item_45 s (itm.If as' None) = if_map _ _ _ (λ a. refl) as' _
+item_45 s (itm.If as' (Some e)) = if_map _ _ _ (λ a. refl) as' _
+item_45 s (itm.Quantified q n r p) = elim (r.high) as (λ (h : Option Expr). item_words (λ w. w) ((shapes.former-Expr-node-at-45).map Expr Words expr (record { span = s; form = itm.Quantified q n (record { low = r.low; high = h }) p })) ≡ item_form expr (itm.Quantified q n (record { low = r.low; high = h }) p)) [ None ↦ refl | Some h ↦ refl ]
 
-arg_45 : (s : Span) (c : ArgChoice Expr) (v : Option (Item Expr)) → arg (λ w. w) ((shapes.former-Expr-node-at-45).map Expr Words expr (record { span = s; choice = c; value = v })) ≡ arg expr (record { span = s; choice = c; value = v })
-arg_45 s cho.Others None = refl
-arg_45 s cho.Others (Some i) = ap (λ (z : Words). word res.Others ++ (symbol del.Arrow ++ z)) (item_43 i.span i.form)
-arg_45 s (cho.Range l h) None = refl
-arg_45 s (cho.Range l h) (Some i) = ap (λ (z : Words). (expr l ++ symbol del.DoubleDot ++ expr h) ++ (symbol del.Arrow ++ z)) (item_43 i.span i.form)
-arg_45 s (cho.Item i) None = ap (λ (z : Words). z ++ []) (item_23 i.span i.form)
-arg_45 s (cho.Item i) (Some j) = ap₂ (λ (y z : Words). y ++ (symbol del.Arrow ++ z)) (item_23 i.span i.form) (item_43 j.span j.form)
+arg_47 : (s : Span) (c : ArgChoice Expr) (v : Option (Item Expr)) → arg (λ w. w) ((shapes.former-Expr-node-at-47).map Expr Words expr (record { span = s; choice = c; value = v })) ≡ arg expr (record { span = s; choice = c; value = v })
+arg_47 s cho.Others None = refl
+arg_47 s cho.Others (Some i) = ap (λ (z : Words). word res.Others ++ (symbol del.Arrow ++ z)) (item_45 i.span i.form)
+arg_47 s (cho.Range l h) None = refl
+arg_47 s (cho.Range l h) (Some i) = ap (λ (z : Words). (expr l ++ symbol del.DoubleDot ++ expr h) ++ (symbol del.Arrow ++ z)) (item_45 i.span i.form)
+arg_47 s (cho.Item i) None = ap (λ (z : Words). z ++ []) (item_24 i.span i.form)
+arg_47 s (cho.Item i) (Some j) = ap₂ (λ (y z : Words). y ++ (symbol del.Arrow ++ z)) (item_24 i.span i.form) (item_45 j.span j.form)
 
-item_65 : (s : Span) (f : ItemForm Expr) → item_words (λ w. w) ((shapes.former-Expr-node-at-65).map Expr Words expr (record { span = s; form = f })) ≡ item_form expr f
-item_65 s (itm.Plain e) = refl
-item_65 s (itm.If as' None) = if_map _ _ _ (λ a. refl) as' _
-item_65 s (itm.If as' (Some e)) = if_map _ _ _ (λ a. refl) as' _
-item_65 s (itm.Quantified q n r p) = elim (r.high) as (λ (h : Option Expr). item_words (λ w. w) ((shapes.former-Expr-node-at-65).map Expr Words expr (record { span = s; form = itm.Quantified q n (record { low = r.low; high = h }) p })) ≡ item_form expr (itm.Quantified q n (record { low = r.low; high = h }) p)) [ None ↦ refl | Some h ↦ refl ]
+item_68 : (s : Span) (f : ItemForm Expr) → item_words (λ w. w) ((shapes.former-Expr-node-at-68).map Expr Words expr (record { span = s; form = f })) ≡ item_form expr f
+item_68 s (itm.Plain e) = refl
+item_68 s (itm.If as' None) = if_map _ _ _ (λ a. refl) as' _
+item_68 s (itm.If as' (Some e)) = if_map _ _ _ (λ a. refl) as' _
+item_68 s (itm.Quantified q n r p) = elim (r.high) as (λ (h : Option Expr). item_words (λ w. w) ((shapes.former-Expr-node-at-68).map Expr Words expr (record { span = s; form = itm.Quantified q n (record { low = r.low; high = h }) p })) ≡ item_form expr (itm.Quantified q n (record { low = r.low; high = h }) p)) [ None ↦ refl | Some h ↦ refl ]
 
-item_85 : (s : Span) (f : ItemForm Expr) → item_words (λ w. w) ((shapes.former-Expr-node-at-85).map Expr Words expr (record { span = s; form = f })) ≡ item_form expr f
-item_85 s (itm.Plain e) = refl
-item_85 s (itm.If as' None) = if_map _ _ _ (λ a. refl) as' _
-item_85 s (itm.If as' (Some e)) = if_map _ _ _ (λ a. refl) as' _
-item_85 s (itm.Quantified q n r p) = elim (r.high) as (λ (h : Option Expr). item_words (λ w. w) ((shapes.former-Expr-node-at-85).map Expr Words expr (record { span = s; form = itm.Quantified q n (record { low = r.low; high = h }) p })) ≡ item_form expr (itm.Quantified q n (record { low = r.low; high = h }) p)) [ None ↦ refl | Some h ↦ refl ]
+item_89 : (s : Span) (f : ItemForm Expr) → item_words (λ w. w) ((shapes.former-Expr-node-at-89).map Expr Words expr (record { span = s; form = f })) ≡ item_form expr f
+item_89 s (itm.Plain e) = refl
+item_89 s (itm.If as' None) = if_map _ _ _ (λ a. refl) as' _
+item_89 s (itm.If as' (Some e)) = if_map _ _ _ (λ a. refl) as' _
+item_89 s (itm.Quantified q n r p) = elim (r.high) as (λ (h : Option Expr). item_words (λ w. w) ((shapes.former-Expr-node-at-89).map Expr Words expr (record { span = s; form = itm.Quantified q n (record { low = r.low; high = h }) p })) ≡ item_form expr (itm.Quantified q n (record { low = r.low; high = h }) p)) [ None ↦ refl | Some h ↦ refl ]
 
-arg_87 : (s : Span) (c : ArgChoice Expr) (v : Option (Item Expr)) → arg (λ w. w) ((shapes.former-Expr-node-at-87).map Expr Words expr (record { span = s; choice = c; value = v })) ≡ arg expr (record { span = s; choice = c; value = v })
-arg_87 s cho.Others None = refl
-arg_87 s cho.Others (Some i) = ap (λ (z : Words). word res.Others ++ (symbol del.Arrow ++ z)) (item_85 i.span i.form)
-arg_87 s (cho.Range l h) None = refl
-arg_87 s (cho.Range l h) (Some i) = ap (λ (z : Words). (expr l ++ symbol del.DoubleDot ++ expr h) ++ (symbol del.Arrow ++ z)) (item_85 i.span i.form)
-arg_87 s (cho.Item i) None = ap (λ (z : Words). z ++ []) (item_65 i.span i.form)
-arg_87 s (cho.Item i) (Some j) = ap₂ (λ (y z : Words). y ++ (symbol del.Arrow ++ z)) (item_65 i.span i.form) (item_85 j.span j.form)
+arg_91 : (s : Span) (c : ArgChoice Expr) (v : Option (Item Expr)) → arg (λ w. w) ((shapes.former-Expr-node-at-91).map Expr Words expr (record { span = s; choice = c; value = v })) ≡ arg expr (record { span = s; choice = c; value = v })
+arg_91 s cho.Others None = refl
+arg_91 s cho.Others (Some i) = ap (λ (z : Words). word res.Others ++ (symbol del.Arrow ++ z)) (item_89 i.span i.form)
+arg_91 s (cho.Range l h) None = refl
+arg_91 s (cho.Range l h) (Some i) = ap (λ (z : Words). (expr l ++ symbol del.DoubleDot ++ expr h) ++ (symbol del.Arrow ++ z)) (item_89 i.span i.form)
+arg_91 s (cho.Item i) None = ap (λ (z : Words). z ++ []) (item_68 i.span i.form)
+arg_91 s (cho.Item i) (Some j) = ap₂ (λ (y z : Words). y ++ (symbol del.Arrow ++ z)) (item_68 i.span i.form) (item_89 j.span j.form)
 
-item_109 : (s : Span) (f : ItemForm Expr) → item_words (λ w. w) ((shapes.former-Expr-node-at-109).map Expr Words expr (record { span = s; form = f })) ≡ item_form expr f
-item_109 s (itm.Plain e) = refl
-item_109 s (itm.If as' None) = if_map _ _ _ (λ a. refl) as' _
-item_109 s (itm.If as' (Some e)) = if_map _ _ _ (λ a. refl) as' _
-item_109 s (itm.Quantified q n r p) = elim (r.high) as (λ (h : Option Expr). item_words (λ w. w) ((shapes.former-Expr-node-at-109).map Expr Words expr (record { span = s; form = itm.Quantified q n (record { low = r.low; high = h }) p })) ≡ item_form expr (itm.Quantified q n (record { low = r.low; high = h }) p)) [ None ↦ refl | Some h ↦ refl ]
+item_114 : (s : Span) (f : ItemForm Expr) → item_words (λ w. w) ((shapes.former-Expr-node-at-114).map Expr Words expr (record { span = s; form = f })) ≡ item_form expr f
+item_114 s (itm.Plain e) = refl
+item_114 s (itm.If as' None) = if_map _ _ _ (λ a. refl) as' _
+item_114 s (itm.If as' (Some e)) = if_map _ _ _ (λ a. refl) as' _
+item_114 s (itm.Quantified q n r p) = elim (r.high) as (λ (h : Option Expr). item_words (λ w. w) ((shapes.former-Expr-node-at-114).map Expr Words expr (record { span = s; form = itm.Quantified q n (record { low = r.low; high = h }) p })) ≡ item_form expr (itm.Quantified q n (record { low = r.low; high = h }) p)) [ None ↦ refl | Some h ↦ refl ]
 
-item_129 : (s : Span) (f : ItemForm Expr) → item_words (λ w. w) ((shapes.former-Expr-node-at-129).map Expr Words expr (record { span = s; form = f })) ≡ item_form expr f
-item_129 s (itm.Plain e) = refl
-item_129 s (itm.If as' None) = if_map _ _ _ (λ a. refl) as' _
-item_129 s (itm.If as' (Some e)) = if_map _ _ _ (λ a. refl) as' _
-item_129 s (itm.Quantified q n r p) = elim (r.high) as (λ (h : Option Expr). item_words (λ w. w) ((shapes.former-Expr-node-at-129).map Expr Words expr (record { span = s; form = itm.Quantified q n (record { low = r.low; high = h }) p })) ≡ item_form expr (itm.Quantified q n (record { low = r.low; high = h }) p)) [ None ↦ refl | Some h ↦ refl ]
+item_135 : (s : Span) (f : ItemForm Expr) → item_words (λ w. w) ((shapes.former-Expr-node-at-135).map Expr Words expr (record { span = s; form = f })) ≡ item_form expr f
+item_135 s (itm.Plain e) = refl
+item_135 s (itm.If as' None) = if_map _ _ _ (λ a. refl) as' _
+item_135 s (itm.If as' (Some e)) = if_map _ _ _ (λ a. refl) as' _
+item_135 s (itm.Quantified q n r p) = elim (r.high) as (λ (h : Option Expr). item_words (λ w. w) ((shapes.former-Expr-node-at-135).map Expr Words expr (record { span = s; form = itm.Quantified q n (record { low = r.low; high = h }) p })) ≡ item_form expr (itm.Quantified q n (record { low = r.low; high = h }) p)) [ None ↦ refl | Some h ↦ refl ]
 
-arg_131 : (s : Span) (c : ArgChoice Expr) (v : Option (Item Expr)) → arg (λ w. w) ((shapes.former-Expr-node-at-131).map Expr Words expr (record { span = s; choice = c; value = v })) ≡ arg expr (record { span = s; choice = c; value = v })
-arg_131 s cho.Others None = refl
-arg_131 s cho.Others (Some i) = ap (λ (z : Words). word res.Others ++ (symbol del.Arrow ++ z)) (item_129 i.span i.form)
-arg_131 s (cho.Range l h) None = refl
-arg_131 s (cho.Range l h) (Some i) = ap (λ (z : Words). (expr l ++ symbol del.DoubleDot ++ expr h) ++ (symbol del.Arrow ++ z)) (item_129 i.span i.form)
-arg_131 s (cho.Item i) None = ap (λ (z : Words). z ++ []) (item_109 i.span i.form)
-arg_131 s (cho.Item i) (Some j) = ap₂ (λ (y z : Words). y ++ (symbol del.Arrow ++ z)) (item_109 i.span i.form) (item_129 j.span j.form)
+arg_137 : (s : Span) (c : ArgChoice Expr) (v : Option (Item Expr)) → arg (λ w. w) ((shapes.former-Expr-node-at-137).map Expr Words expr (record { span = s; choice = c; value = v })) ≡ arg expr (record { span = s; choice = c; value = v })
+arg_137 s cho.Others None = refl
+arg_137 s cho.Others (Some i) = ap (λ (z : Words). word res.Others ++ (symbol del.Arrow ++ z)) (item_135 i.span i.form)
+arg_137 s (cho.Range l h) None = refl
+arg_137 s (cho.Range l h) (Some i) = ap (λ (z : Words). (expr l ++ symbol del.DoubleDot ++ expr h) ++ (symbol del.Arrow ++ z)) (item_135 i.span i.form)
+arg_137 s (cho.Item i) None = ap (λ (z : Words). z ++ []) (item_114 i.span i.form)
+arg_137 s (cho.Item i) (Some j) = ap₂ (λ (y z : Words). y ++ (symbol del.Arrow ++ z)) (item_114 i.span i.form) (item_135 j.span j.form)
 
-suffix_map : (x : Suffix Expr) → suffix (λ w. w) ((shapes.former-Expr-node-at-89).map Expr Words expr x) ≡ suffix expr x
+suffix_map : (x : Suffix Expr) → suffix (λ w. w) ((shapes.former-Expr-node-at-93).map Expr Words expr x) ≡ suffix expr x
 suffix_map (suf.Selected k) = refl
 suffix_map (suf.Ticked p (att.Named k)) = refl
 suffix_map (suf.Ticked p att.Range) = refl
-suffix_map (suf.Ticked p (att.Qualified as')) = ap (λ (z : Words). symbol del.Tick ++ z) (group_map _ _ _ (λ x. arg_45 x.span x.choice x.value) as')
-suffix_map (suf.Applied as') = group_map _ _ _ (λ x. arg_87 x.span x.choice x.value) as'
+suffix_map (suf.Ticked p (att.Qualified as')) = ap (λ (z : Words). symbol del.Tick ++ z) (group_map _ _ _ (λ x. arg_47 x.span x.choice x.value) as')
+suffix_map (suf.Applied as') = group_map _ _ _ (λ x. arg_91 x.span x.choice x.value) as'
 
 node_words : (s : Span) (n : ExprNode Expr) → expr_step (map-Expr Expr Words expr (record { span = s; node = n })) ≡ expr_node expr n
 node_words s (node.Number n) = refl
 node_words s node.Null = refl
 node_words s (node.Name n) = name_map n.first _ _ _ suffix_map n.suffixes
-node_words s (node.Group as') = group_map _ _ _ (λ x. arg_131 x.span x.choice x.value) as'
+node_words s (node.Group as') = group_map _ _ _ (λ x. arg_137 x.span x.choice x.value) as'
 node_words s (node.Unary p o a) = refl
 node_words s (node.Binary p o a b) = refl
 node_words s (node.Member p n a r) = elim (r.high) as (λ (h : Option Expr). expr_step (map-Expr Expr Words expr (record { span = s; node = node.Member p n a (record { low = r.low; high = h }) })) ≡ expr_node expr (node.Member p n a (record { low = r.low; high = h }))) [ None ↦ refl | Some h ↦ refl ]

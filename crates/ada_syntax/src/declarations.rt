@@ -3,7 +3,7 @@
 use crate::expressions::{Expr, Item, Name};
 use crate::statements::{Pragma, Stmt};
 use ada_text::Span;
-use sqlite_items::Items;
+use sqlite_items::{Boxed, Items};
 
 /// Two bounds, the text between which is `..`.
 pub struct Bounds {
@@ -97,7 +97,7 @@ impl Drop for Component {
 /// A type's definition.
 pub struct TypeDef {
     pub span: Span,
-    pub form: TypeForm,
+    pub form: Boxed<TypeForm>,
 }
 
 impl Drop for TypeDef {
@@ -256,7 +256,7 @@ impl<D: Drop> Drop for Sub<D> {
 /// A declaration.
 pub struct Decl {
     pub span: Span,
-    pub form: DeclForm<Decl>,
+    pub form: Boxed<DeclForm<Decl>>,
 }
 
 impl Drop for Decl {

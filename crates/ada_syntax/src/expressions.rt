@@ -88,7 +88,7 @@ impl<E: Drop> Drop for Arm<E> {
 /// What may stand where an expression is wanted in parentheses or in an aspect.
 pub struct Item<E> {
     pub span: Span,
-    pub form: ItemForm<E>,
+    pub form: Boxed<ItemForm<E>>,
 }
 
 impl<E: Drop> Drop for Item<E> {
@@ -222,7 +222,7 @@ impl<E: Drop> Drop for Name<E> {
 /// An expression.
 pub struct Expr {
     pub span: Span,
-    pub node: ExprNode<Expr>,
+    pub node: Boxed<ExprNode<Expr>>,
 }
 
 impl Drop for Expr {
@@ -240,11 +240,11 @@ pub enum ExprNode<E> {
     /// An expression in parentheses, or an aggregate.
     Group(Items<Arg<E>>),
     /// An operator with its place, and its operand.
-    Unary(Span, UnaryOperator, Boxed<E>),
+    Unary(Span, UnaryOperator, E),
     /// An operator with its place, and its operands. An operator that is written more than once groups to the left.
-    Binary(Span, BinaryOperator, Boxed<E>, Boxed<E>),
+    Binary(Span, BinaryOperator, E, E),
     /// A membership test: the place of `in`, or of `not` for true, the number or value, and the range.
-    Member(Span, bool, Boxed<E>, Boxed<Range<E>>),
+    Member(Span, bool, E, Boxed<Range<E>>),
 }
 
 impl<E: Drop> Drop for ExprNode<E> {

@@ -2,7 +2,7 @@
 
 use crate::expressions::{Arg, Expr, Name, Range};
 use ada_text::Span;
-use sqlite_items::Items;
+use sqlite_items::{Boxed, Items};
 
 /// A pragma, with its name and its arguments. Without parentheses there are none, and in parentheses one or more.
 pub struct Pragma {
@@ -86,7 +86,7 @@ impl Drop for LoopHead {
 /// A statement.
 pub struct Stmt {
     pub span: Span,
-    pub action: Action<Stmt>,
+    pub action: Boxed<Action<Stmt>>,
 }
 
 impl Drop for Stmt {

@@ -3,7 +3,7 @@
 use crate::declarations::{Aspect, Decl, Sub};
 use crate::statements::Pragma;
 use ada_text::Span;
-use sqlite_items::Items;
+use sqlite_items::{Boxed, Items};
 
 /// What may stand before a unit. A clause has one name or more.
 pub enum ContextItem {
@@ -72,7 +72,7 @@ impl Drop for PackageBody {
 #[derive(Drop)]
 pub struct Unit {
     pub span: Span,
-    pub form: UnitForm,
+    pub form: Boxed<UnitForm>,
 }
 
 /// The forms of a library unit.

@@ -6,13 +6,13 @@ use Rattle.ada_syntax.specs.declared.units.SourceUnit.{SourceUnit}
 use Rattle.grammar_table.specs.Answers.{Derives, start, terminals}
 use Rattle.grammar_table.specs.Parses.{Production, Step, take, expand, taken}
 use Rattle.grammar_table.specs.Productions.{productions}
-use Rattle.ada_tree.specs.declared.part.Part.{Part}
-use Rattle.ada_tree.specs.declared.part.Part.TheVariants as part
-use Rattle.ada_tree.specs.declared.part.UnitPart.TheVariants as unit_part
+use Rattle.tree_parts.specs.declared.parts.Part.{Part}
+use Rattle.tree_parts.specs.declared.parts.Part.TheVariants as part
+use Rattle.tree_parts.specs.declared.unit_parts.UnitPart.TheVariants as unit_part
 use Rattle.ada_tree.specs.declared.weave.Move.{Move}
 use Rattle.ada_tree.specs.declared.weave.Move.TheVariants.{Take, Expand}
 use Rattle.ada_tree.specs.Moves.{moves_of, takes, woven}
-use Rattle.ada_tree.specs.Parts.{first, source_unit_of}
+use Rattle.tree_parts.specs.Parts.{first, source_unit_of}
 use Rattle.ada_tree.specs.Trees.{Spells, parts_of, tokens_after, with_move}
 use Rattle.ada_tree.proofs.Total.{has_tree}
 use Rattle.ada_tree.proofs.Weaving.{woven_parse}

@@ -6,8 +6,8 @@ use Rattle.grammar_table.specs.Answers.{start}
 use Rattle.grammar_table.specs.Parses.{Step}
 use Rattle.grammar_table.proofs.Only.{start_consistent}
 use Rattle.grammar_table.proofs.Parsing.{same_parse}
-use Rattle.ada_tree.specs.declared.part.Part.TheVariants as part
-use Rattle.ada_tree.specs.declared.part.UnitPart.TheVariants as unit_part
+use Rattle.tree_parts.specs.declared.parts.Part.TheVariants as part
+use Rattle.tree_parts.specs.declared.unit_parts.UnitPart.TheVariants as unit_part
 use Rattle.ada_tree.specs.Moves.{moves_of}
 use Rattle.ada_tree.specs.Trees.{Spells, parts_of}
 

@@ -24,14 +24,14 @@ use Rattle.ada_syntax.proofs.Folded.{expr_words}
 use Rattle.grammar_table.specs.Answers.{terminal_of}
 use Rattle.grammar_table.specs.declared.symbols.Terminal.{Terminal}
 use Rattle.grammar_table.specs.declared.symbols.Terminal.TheVariants as terminal
-use Rattle.ada_tree.specs.declared.operations.Operation.{Operation}
-use Rattle.ada_tree.specs.declared.part.ArgTail.{ArgTail}
-use Rattle.ada_tree.specs.declared.part.ArgTail.TheVariants as ArgTail'
-use Rattle.ada_tree.specs.declared.part.RelationTail.{RelationTail}
-use Rattle.ada_tree.specs.declared.part.RelationTail.TheVariants as RelationTail'
-use Rattle.ada_tree.specs.Operations.{binary, grouped, unary}
-use Rattle.ada_tree.specs.Operators.{logic_operator, operator_of, quantifier_of, short_operator_of, unary_operator_of}
-use Rattle.ada_tree.specs.Relations.{argument, named_action, related}
+use Rattle.tree_parts.specs.declared.part.Operation.{Operation}
+use Rattle.tree_parts.specs.declared.relations.ArgTail.{ArgTail}
+use Rattle.tree_parts.specs.declared.relations.ArgTail.TheVariants as ArgTail'
+use Rattle.tree_parts.specs.declared.relations.RelationTail.{RelationTail}
+use Rattle.tree_parts.specs.declared.relations.RelationTail.TheVariants as RelationTail'
+use Rattle.tree_parts.specs.Operations.{binary, grouped, unary}
+use Rattle.tree_parts.specs.Operators.{logic_operator, operator_of, quantifier_of, short_operator_of, unary_operator_of}
+use Rattle.tree_parts.specs.Relations.{argument, named_action, related}
 use Rattle.ada_tree.proofs.Texts.{IsBox, IsIn, IsMore, IsPack, arg_tail, assigned, box, in_out, object_rest, operations, pack, relation_tail, second}
 
 -- the kind of a token that is this terminal

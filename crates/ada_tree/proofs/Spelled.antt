@@ -14,10 +14,10 @@ use Rattle.grammar_table.specs.declared.symbols.Nonterminal.{Nonterminal}
 use Rattle.grammar_table.specs.declared.symbols.Symbol.{Symbol}
 use Rattle.grammar_table.specs.declared.symbols.Symbol.TheVariants.{Token as token, Phrase}
 use Rattle.grammar_table.specs.declared.symbols.Terminal.{Terminal}
-use Rattle.ada_tree.specs.declared.part.Part.{Part}
+use Rattle.tree_parts.specs.declared.parts.Part.{Part}
 use Rattle.ada_tree.specs.Made.{made, rule_at}
 use Rattle.ada_tree.specs.Moves.{moves_of}
-use Rattle.ada_tree.specs.Parts.{after, first, rest}
+use Rattle.tree_parts.specs.Parts.{after, first, rest}
 use Rattle.ada_tree.specs.Trees.{Spells, parts_of}
 use Rattle.ada_tree.proofs.Arities.{arity, made_one}
 use Rattle.ada_tree.proofs.Lawful.{law_at}

@@ -16,11 +16,11 @@ use Rattle.ada_syntax.specs.Expressions.{binary_operator, quantifier, range, arm
 use Rattle.ada_syntax.specs.Statements.{semicolon, args, pragma, branch, otherwise, case_choice, alternative, reversed, loop_head, stmt}
 use Rattle.ada_syntax.specs.Declarations.{bounds, sub_ind, index_form, index, component, type_form, object, mode, param, params, aspect, aspects, end_name, body, sub, decl}
 use Rattle.ada_syntax.specs.Units.{context_item, private_part, unit, spelled}
-use Rattle.ada_tree.specs.declared.part.ArgTail.{ArgTail}
-use Rattle.ada_tree.specs.declared.part.ArgTail.TheVariants as ArgTail'
-use Rattle.ada_tree.specs.declared.part.LogicTail.{LogicTail}
-use Rattle.ada_tree.specs.declared.part.RelationTail.{RelationTail}
-use Rattle.ada_tree.specs.declared.part.RelationTail.TheVariants as RelationTail'
+use Rattle.tree_parts.specs.declared.relations.ArgTail.{ArgTail}
+use Rattle.tree_parts.specs.declared.relations.ArgTail.TheVariants as ArgTail'
+use Rattle.tree_parts.specs.declared.part.LogicTail.{LogicTail}
+use Rattle.tree_parts.specs.declared.relations.RelationTail.{RelationTail}
+use Rattle.tree_parts.specs.declared.relations.RelationTail.TheVariants as RelationTail'
 use Rattle.grammar_table.specs.Answers.{terminal_of}
 use Rattle.grammar_table.specs.declared.symbols.Nonterminal.{Nonterminal}
 use Rattle.grammar_table.specs.declared.symbols.Nonterminal.TheVariants as non
@@ -28,12 +28,12 @@ use Rattle.grammar_table.specs.declared.symbols.Symbol.{Symbol}
 use Rattle.grammar_table.specs.declared.symbols.Symbol.TheVariants as sym'
 use Rattle.grammar_table.specs.declared.symbols.Terminal.{Terminal}
 use Rattle.grammar_table.specs.declared.symbols.Terminal.TheVariants as terminal
-use Rattle.ada_tree.specs.declared.operations.Operation.{Operation}
-use Rattle.ada_tree.specs.declared.part.Part.{Part}
+use Rattle.tree_parts.specs.declared.part.Operation.{Operation}
+use Rattle.tree_parts.specs.declared.parts.Part.{Part}
 use Rattle.ada_tree.specs.declared.rules.Rule.{Rule}
 use Rattle.ada_tree.specs.Made.{made}
-use Rattle.ada_tree.specs.Operators.{number_of, operator_of, quantifier_of}
-use Rattle.ada_tree.specs.Parts.{first, rest, alternative_of, alternatives_of, arg_of, arg_tail_of, args_of, arms_of, aspect_of, aspects_of, attribute_of, body_of, bounds_of, branches_of, choice_of, choices_of, component_of, components_of, context_of, decl_of, decls_of, end_name_of, expr_of, flag_of, index_form_of, index_of, item_of, logic_tail_of, loop_head_of, mode_of, name_of, names_of, object_of, operations_of, optional_expr_of, optional_item_of, param_of, params_of, pragma_of, private_of, range_of, relation_tail_of, source_unit_of, stmt_of, stmts_of, sub_ind_of, sub_of, suffixes_of, token_of, type_def_of, unit_of}
+use Rattle.tree_parts.specs.Operators.{number_of, operator_of, quantifier_of}
+use Rattle.tree_parts.specs.Parts.{first, rest, alternative_of, alternatives_of, arg_of, arg_tail_of, args_of, arms_of, aspect_of, aspects_of, attribute_of, body_of, bounds_of, branches_of, choice_of, choices_of, component_of, components_of, context_of, decl_of, decls_of, end_name_of, expr_of, flag_of, index_form_of, index_of, item_of, logic_tail_of, loop_head_of, mode_of, name_of, names_of, object_of, operations_of, optional_expr_of, optional_item_of, param_of, params_of, pragma_of, private_of, range_of, relation_tail_of, source_unit_of, stmt_of, stmts_of, sub_ind_of, sub_of, suffixes_of, token_of, type_def_of, unit_of}
 
 abbrev pub assigned : Option Expr → Words
 assigned = where_some (λ e. symbol del.Assign ++ expr e)

@@ -8,13 +8,13 @@ use Rattle.grammar_table.specs.declared.symbols.Nonterminal.{Nonterminal}
 use Rattle.grammar_table.specs.declared.symbols.Nonterminal.TheVariants as non
 use Rattle.grammar_table.specs.declared.symbols.Symbol.{Symbol}
 use Rattle.grammar_table.specs.declared.symbols.Symbol.TheVariants.{Token as token, Phrase}
-use Rattle.ada_tree.specs.declared.part.Part.{Part}
-use Rattle.ada_tree.specs.declared.part.Part.TheVariants as part
-use Rattle.ada_tree.specs.declared.part.UnitPart.TheVariants as unit_part
+use Rattle.tree_parts.specs.declared.parts.Part.{Part}
+use Rattle.tree_parts.specs.declared.parts.Part.TheVariants as part
+use Rattle.tree_parts.specs.declared.unit_parts.UnitPart.TheVariants as unit_part
 use Rattle.ada_tree.specs.declared.rules.Rule.{Rule}
 use Rattle.ada_tree.specs.Made.{made, rule_among, rule_at, rules as table}
 use Rattle.ada_tree.specs.Moves.{moves_of}
-use Rattle.ada_tree.specs.Parts.{after, first, source_unit_of}
+use Rattle.tree_parts.specs.Parts.{after, first, source_unit_of}
 use Rattle.ada_tree.specs.Trees.{parts_of}
 use Rattle.ada_tree.proofs.Arities.{arity, made_one, length-after}
 

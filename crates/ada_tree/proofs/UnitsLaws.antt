@@ -7,46 +7,49 @@ use Rattle.grammar_table.specs.Parses.{right_of}
 use Rattle.grammar_table.specs.Productions.{productions}
 use Rattle.grammar_table.specs.declared.symbols.Nonterminal.TheVariants as non
 use Rattle.grammar_table.specs.declared.symbols.Terminal.TheVariants as terminal
-use Rattle.ada_tree.specs.declared.rules.UnitRule.TheVariants as UnitRule'
+use Rattle.ada_tree.specs.declared.rules.ContextRule.TheVariants as ContextRule'
 use Rattle.ada_tree.specs.declared.rules.DeclarationRule.TheVariants as DeclarationRule'
+use Rattle.ada_tree.specs.declared.rules.NamesRule.TheVariants as NamesRule'
+use Rattle.ada_tree.specs.declared.rules.OtherDeclarationRule.TheVariants as OtherDeclarationRule'
+use Rattle.ada_tree.specs.declared.rules.UnitRule.TheVariants as UnitRule'
 use Rattle.ada_tree.specs.declared.rules.Rule.TheVariants as rule
-use Rattle.ada_tree.specs.Parts.{◌!◌, token_of, unit_of}
+use Rattle.tree_parts.specs.Parts.{◌!◌, token_of, unit_of}
 use Rattle.ada_tree.proofs.Joins.{flat2, flat5}
 use Rattle.ada_tree.proofs.Phrases.{pack_words}
 use Rattle.ada_tree.proofs.Texts.{Law, text, token_text}
 
 -- File = Start Unit
-pub law_0 : Law non.File (right_of productions 0) (rule.Unit UnitRule'.File)
+pub law_0 : Law non.File (right_of productions 0) (rule.Context ContextRule'.File)
 unfolding productions
 law_0 ps f = (simp append-nil, tt)
 
 -- Start = Pragma Start
-pub law_1 : Law non.Start (right_of productions 1) (rule.Unit UnitRule'.ContextPragma)
+pub law_1 : Law non.Start (right_of productions 1) (rule.Context ContextRule'.ContextPragma)
 unfolding productions
 law_1 ps f = (flat2 (text non.Pragma (ps ! 0)) (text non.Start (ps ! 1)), tt)
 
 -- Start = with Id Ids ; Start
-pub law_2 : Law non.Start (right_of productions 2) (rule.Unit UnitRule'.ContextWith)
+pub law_2 : Law non.Start (right_of productions 2) (rule.Context ContextRule'.ContextWith)
 unfolding productions
 law_2 ps f = (simp (append_assoc, append-nil), tt)
 
 -- Start = use Id Ids ; Start
-pub law_3 : Law non.Start (right_of productions 3) (rule.Unit UnitRule'.ContextUse)
+pub law_3 : Law non.Start (right_of productions 3) (rule.Context ContextRule'.ContextUse)
 unfolding productions
 law_3 ps f = (simp (append_assoc, append-nil), tt)
 
 -- Start =
-pub law_4 : Law non.Start (right_of productions 4) (rule.Unit UnitRule'.NoContext)
+pub law_4 : Law non.Start (right_of productions 4) (rule.Context ContextRule'.NoContext)
 unfolding productions
 law_4 ps f = (refl, tt)
 
 -- Ids = , Id Ids
-pub law_5 : Law non.Ids (right_of productions 5) (rule.Unit UnitRule'.Names)
+pub law_5 : Law non.Ids (right_of productions 5) (rule.Names NamesRule'.Names)
 unfolding productions
 law_5 ps f = (simp (append_assoc, append-nil), tt)
 
 -- Ids =
-pub law_6 : Law non.Ids (right_of productions 6) (rule.Unit UnitRule'.NoNames)
+pub law_6 : Law non.Ids (right_of productions 6) (rule.Names NamesRule'.NoNames)
 unfolding productions
 law_6 ps f = (refl, tt)
 
@@ -81,12 +84,12 @@ unfolding productions
 law_12 ps f = (refl, tt)
 
 -- EndId = Id
-pub law_13 : Law non.EndId (right_of productions 13) (rule.Unit UnitRule'.SomeEndName)
+pub law_13 : Law non.EndId (right_of productions 13) (rule.Names NamesRule'.SomeEndName)
 unfolding productions
 law_13 ps f = (simp append-nil, tt)
 
 -- EndId =
-pub law_14 : Law non.EndId (right_of productions 14) (rule.Unit UnitRule'.NoEndName)
+pub law_14 : Law non.EndId (right_of productions 14) (rule.Names NamesRule'.NoEndName)
 unfolding productions
 law_14 ps f = (refl, tt)
 
@@ -116,16 +119,16 @@ unfolding productions
 law_19 ps f = (decl_words _ _ ∙ flat5 (token_text (terminal.Identifier) (token_of (ps ! 0))) (text non.Ids (ps ! 1)) (token_text ((terminal.Mark del.Colon)) (token_of (ps ! 2))) (text non.Obj (ps ! 3)) (token_text ((terminal.Mark del.Semicolon)) (token_of (ps ! 4))), tt)
 
 -- Decl = Sub
-pub law_20 : Law non.Decl (right_of productions 20) (rule.Declaration DeclarationRule'.DeclSub)
+pub law_20 : Law non.Decl (right_of productions 20) (rule.OtherDeclaration OtherDeclarationRule'.DeclSub)
 unfolding productions
 law_20 ps f = (decl_words _ _ ∙ simp (append_assoc, append-nil), tt)
 
 -- Decl = Pragma
-pub law_21 : Law non.Decl (right_of productions 21) (rule.Declaration DeclarationRule'.DeclPragma)
+pub law_21 : Law non.Decl (right_of productions 21) (rule.OtherDeclaration OtherDeclarationRule'.DeclPragma)
 unfolding productions
 law_21 ps f = (decl_words _ _ ∙ simp (append_assoc, append-nil), tt)
 
 -- Decl = use Id Ids ;
-pub law_22 : Law non.Decl (right_of productions 22) (rule.Declaration DeclarationRule'.DeclUse)
+pub law_22 : Law non.Decl (right_of productions 22) (rule.OtherDeclaration OtherDeclarationRule'.DeclUse)
 unfolding productions
 law_22 ps f = (decl_words _ _ ∙ simp (append_assoc, append-nil), tt)

@@ -1,15 +1,9 @@
 pub mod Declarations
-pub mod Ends
 pub mod Expressions
 pub mod Items
 pub mod Made
-pub mod Missing
 pub mod Moves
 pub mod Names
-pub mod Operations
-pub mod Operators
-pub mod Parts
-pub mod Relations
 pub mod Statements
 pub mod Subprograms
 pub mod Trees

@@ -5,13 +5,13 @@ use Rattle.ada_syntax.specs.declared.units.SourceUnit.{SourceUnit}
 use Rattle.grammar_table.specs.Answers.{start, terminals}
 use Rattle.grammar_table.specs.Parses.{Parses, Step, taken}
 use Rattle.grammar_table.specs.Productions.{productions}
-use Rattle.ada_tree.specs.declared.part.Part.{Part}
-use Rattle.ada_tree.specs.declared.part.Part.TheVariants as part
-use Rattle.ada_tree.specs.declared.part.UnitPart.TheVariants as unit_part
+use Rattle.tree_parts.specs.declared.parts.Part.{Part}
+use Rattle.tree_parts.specs.declared.parts.Part.TheVariants as part
+use Rattle.tree_parts.specs.declared.unit_parts.UnitPart.TheVariants as unit_part
 use Rattle.ada_tree.specs.declared.weave.Move.{Move}
 use Rattle.ada_tree.specs.declared.weave.Move.TheVariants.{Take, Expand}
 use Rattle.ada_tree.specs.Made.{made, rule_at}
-use Rattle.ada_tree.specs.Missing.{nothing}
+use Rattle.tree_parts.specs.Missing.{nothing}
 use Rattle.ada_tree.specs.Moves.{moves_of}
 
 abbrev pub first_token : List Token → Token

@@ -7,14 +7,13 @@ ghost use Rattle.ada_tree.specs.Moves.{takes};
 ghost use Rattle.ada_tree.specs.Trees.{Spells, parts_of, with_move};
 
 use crate::made::{apply, rule_at};
-use crate::part::Part;
-use crate::parts::Parts;
 use crate::weave::{Move, weave};
 use ada_syntax::SourceUnit;
 use ada_text::{Token, TokenList};
 use grammar_table::{Derivation, Starved, spark_grammar};
 use sqlite_items::Items;
 use std::alloc::Global;
+use tree_parts::Parts;
 
 /// Puts the part of a move in front of those after it. Answers how many tokens are left before it.
 fn put_move(
@@ -32,7 +31,7 @@ fn put_move(
     match last {
         Move::Take => {
             let before = left - 1;
-            parts.put_first(Part::Token(tokens[before]))?;
+            parts.put_token(tokens[before])?;
             Ok(before)
         }
         Move::Expand(production) => {
@@ -66,11 +65,8 @@ pub fn build(
     requires { Derives productions (terminals tokens.now) derivation.now.productions }
     ensures { IfOk result (λ unit. Spells unit tokens.now) }
 {
-    let moves = weave(
-        alloc,
-        &spark_grammar(),
-        derivation.productions.as_slice(),
-    )?;
+    let moves = weave(alloc, &spark_grammar(), derivation.productions.as_slice())?;
     let mut parts = parts_of(alloc, moves, tokens.as_slice())?;
-    Ok(parts.source_unit(alloc))
+    let tree = parts.unit().source_unit(alloc)?;
+    Ok(tree)
 }

@@ -1,178 +1,15 @@
 //! What becomes of declarations (Ada RM 3.2.1, 3.2.2, 3.3.1, 3.11, 8.4).
 
 ghost use Rattle.std.specs.Prelude.{◌≡◌, OnOk};
-ghost use Rattle.ada_tree.specs.Declarations.{declaration_rule};
+ghost use Rattle.ada_tree.specs.Declarations.{declaration_rule, object_rule, other_declaration_rule};
 
-use crate::chain::Chain;
-use crate::operations::joined;
-use crate::part::DeclarationPart;
-use crate::parts::Parts;
-use crate::rules::DeclarationRule;
-use ada_syntax::{Decl, DeclForm, Object};
-use grammar_table::Starved;
+use crate::rules::{DeclarationRule, ObjectRule, OtherDeclarationRule};
+use ada_syntax::{DeclForm, Object};
 use std::alloc::Global;
-
-/// `Decls = Decl Decls`
-fn apply_decls(alloc: Global, parts: &mut Parts) -> Result<(), Starved>
-    ensures { OnOk result (parts.new ≡ declaration_rule DeclarationRule.Decls parts.old) }
-{
-    let decl = parts.decl(alloc);
-    let mut decls = parts.decls(alloc);
-    decls.put_first(decl)?;
-    parts.put_declaration(alloc, DeclarationPart::Decls(decls))
-}
-
-/// `Decl = type Id is TypeDef ;`
-fn apply_type(alloc: Global, parts: &mut Parts) -> Result<(), Starved>
-    ensures { OnOk result (parts.new ≡ declaration_rule DeclarationRule.Type parts.old) }
-{
-    let start = parts.place();
-    let name = parts.place();
-    parts.skip();
-    let definition = parts.type_def(alloc);
-    let end = parts.place();
-    parts.put_declaration(
-        alloc,
-        DeclarationPart::Decl(Decl {
-            span: joined(start, end),
-            form: DeclForm::Type(name, definition),
-        }),
-    )
-}
-
-/// `Decl = subtype Id is SubInd ;`
-fn apply_subtype(alloc: Global, parts: &mut Parts) -> Result<(), Starved>
-    ensures { OnOk result (parts.new ≡ declaration_rule DeclarationRule.Subtype parts.old) }
-{
-    let start = parts.place();
-    let name = parts.place();
-    parts.skip();
-    let subtype = parts.sub_ind(alloc);
-    let end = parts.place();
-    parts.put_declaration(
-        alloc,
-        DeclarationPart::Decl(Decl {
-            span: joined(start, end),
-            form: DeclForm::Subtype(name, subtype),
-        }),
-    )
-}
-
-/// `Decl = Id Ids : Obj ;`
-fn apply_object(alloc: Global, parts: &mut Parts) -> Result<(), Starved>
-    ensures { OnOk result (parts.new ≡ declaration_rule DeclarationRule.Object parts.old) }
-{
-    let name = parts.place();
-    let mut names = parts.names(alloc);
-    parts.skip();
-    let object = parts.object();
-    let end = parts.place();
-    names.put_first(name)?;
-    parts.put_declaration(
-        alloc,
-        DeclarationPart::Decl(Decl {
-            span: joined(name, end),
-            form: DeclForm::Object(names.into_items(), object),
-        }),
-    )
-}
-
-/// `Decl = Sub`
-fn apply_decl_sub(alloc: Global, parts: &mut Parts) -> Result<(), Starved>
-    ensures { OnOk result (parts.new ≡ declaration_rule DeclarationRule.DeclSub parts.old) }
-{
-    let sub = parts.sub(alloc);
-    parts.put_declaration(
-        alloc,
-        DeclarationPart::Decl(Decl {
-            span: sub.span,
-            form: DeclForm::Sub(sub),
-        }),
-    )
-}
-
-/// `Decl = Pragma`
-fn apply_decl_pragma(alloc: Global, parts: &mut Parts) -> Result<(), Starved>
-    ensures { OnOk result (parts.new ≡ declaration_rule DeclarationRule.DeclPragma parts.old) }
-{
-    let pragma = parts.pragma(alloc);
-    parts.put_declaration(
-        alloc,
-        DeclarationPart::Decl(Decl {
-            span: pragma.span,
-            form: DeclForm::Pragma(pragma),
-        }),
-    )
-}
-
-/// `Decl = use Id Ids ;`
-fn apply_decl_use(alloc: Global, parts: &mut Parts) -> Result<(), Starved>
-    ensures { OnOk result (parts.new ≡ declaration_rule DeclarationRule.DeclUse parts.old) }
-{
-    let start = parts.place();
-    let name = parts.place();
-    let mut names = parts.names(alloc);
-    let end = parts.place();
-    names.put_first(name)?;
-    parts.put_declaration(
-        alloc,
-        DeclarationPart::Decl(Decl {
-            span: joined(start, end),
-            form: DeclForm::Use(names.into_items()),
-        }),
-    )
-}
-
-/// `Obj = SubInd Init`
-fn apply_variable(alloc: Global, parts: &mut Parts) -> Result<(), Starved>
-    ensures { OnOk result (parts.new ≡ declaration_rule DeclarationRule.Variable parts.old) }
-{
-    let subtype = parts.sub_ind(alloc);
-    let value = parts.optional_expr();
-    parts.put_declaration(
-        alloc,
-        DeclarationPart::Object(Object {
-            constant: false,
-            subtype: Some(subtype),
-            value,
-        }),
-    )
-}
-
-/// `Const = := Expr`
-fn apply_named_number(alloc: Global, parts: &mut Parts) -> Result<(), Starved>
-    ensures { OnOk result (parts.new ≡ declaration_rule DeclarationRule.NamedNumber parts.old) }
-{
-    parts.skip();
-    let value = parts.expr();
-    parts.put_declaration(
-        alloc,
-        DeclarationPart::Object(Object {
-            constant: true,
-            subtype: None,
-            value: Some(value),
-        }),
-    )
-}
-
-/// `Const = SubInd Init`
-fn apply_constant(alloc: Global, parts: &mut Parts) -> Result<(), Starved>
-    ensures { OnOk result (parts.new ≡ declaration_rule DeclarationRule.Constant parts.old) }
-{
-    let subtype = parts.sub_ind(alloc);
-    let value = parts.optional_expr();
-    parts.put_declaration(
-        alloc,
-        DeclarationPart::Object(Object {
-            constant: true,
-            subtype: Some(subtype),
-            value,
-        }),
-    )
-}
+use tree_parts::{Chain, DeclarationPart, Parts, Starved, joined};
 
 /// Takes the parts of a production from the front, and puts there what the rule makes of them.
-pub fn apply_declaration_rule(
+pub fn apply_declaration(
     alloc: Global,
     rule: DeclarationRule,
     parts: &mut Parts,
@@ -180,19 +17,125 @@ pub fn apply_declaration_rule(
     ensures { OnOk result (parts.new ≡ declaration_rule rule parts.old) }
 {
     match rule {
-        DeclarationRule::Decls => apply_decls(alloc, parts),
+        // Decls = Decl Decls
+        DeclarationRule::Decls => {
+            let decl = parts.declaration().decl(alloc)?;
+            let decls = parts.declaration().decls(alloc).with_first(decl)?;
+            parts.put_declaration(alloc, DeclarationPart::Decls(decls))
+        }
         // Decls =
         DeclarationRule::NoDecls => {
             parts.put_declaration(alloc, DeclarationPart::Decls(Chain::new(alloc)))
         }
-        DeclarationRule::Type => apply_type(alloc, parts),
-        DeclarationRule::Subtype => apply_subtype(alloc, parts),
-        DeclarationRule::Object => apply_object(alloc, parts),
-        DeclarationRule::DeclSub => apply_decl_sub(alloc, parts),
-        DeclarationRule::DeclPragma => apply_decl_pragma(alloc, parts),
-        DeclarationRule::DeclUse => apply_decl_use(alloc, parts),
-        DeclarationRule::Variable => apply_variable(alloc, parts),
-        DeclarationRule::NamedNumber => apply_named_number(alloc, parts),
-        DeclarationRule::Constant => apply_constant(alloc, parts),
+        // Decl = type Id is TypeDef ;
+        DeclarationRule::Type => {
+            let start = parts.place();
+            let name = parts.place();
+            parts.skip();
+            let definition = parts.type_part().type_def(alloc)?;
+            let end = parts.place();
+            parts.put_decl(alloc, joined(start, end), DeclForm::Type(name, definition))
+        }
+        // Decl = subtype Id is SubInd ;
+        DeclarationRule::Subtype => {
+            let start = parts.place();
+            let name = parts.place();
+            parts.skip();
+            let subtype = parts.type_part().sub_ind(alloc);
+            let end = parts.place();
+            parts.put_decl(alloc, joined(start, end), DeclForm::Subtype(name, subtype))
+        }
+        // Decl = Id Ids : Obj ;
+        DeclarationRule::Object => {
+            let name = parts.place();
+            let names = parts.unit().names(alloc);
+            parts.skip();
+            let object = parts.declaration().object();
+            let end = parts.place();
+            let names = names.with_first(name)?;
+            parts.put_decl(
+                alloc,
+                joined(name, end),
+                DeclForm::Object(names.into_items(), object),
+            )
+        }
+    }
+}
+
+/// Takes the parts of a production from the front, and puts there what the rule makes of them.
+pub fn apply_other_declaration(
+    alloc: Global,
+    rule: OtherDeclarationRule,
+    parts: &mut Parts,
+) -> Result<(), Starved>
+    ensures { OnOk result (parts.new ≡ other_declaration_rule rule parts.old) }
+{
+    match rule {
+        // Decl = Sub
+        OtherDeclarationRule::DeclSub => {
+            let sub = parts.declaration().sub(alloc);
+            parts.put_decl(alloc, sub.span, DeclForm::Sub(sub))
+        }
+        // Decl = Pragma
+        OtherDeclarationRule::DeclPragma => {
+            let pragma = parts.declaration().pragma(alloc);
+            parts.put_decl(alloc, pragma.span, DeclForm::Pragma(pragma))
+        }
+        // Decl = use Id Ids ;
+        OtherDeclarationRule::DeclUse => {
+            let start = parts.place();
+            let name = parts.place();
+            let names = parts.unit().names(alloc);
+            let end = parts.place();
+            let names = names.with_first(name)?;
+            parts.put_decl(alloc, joined(start, end), DeclForm::Use(names.into_items()))
+        }
+    }
+}
+
+/// Takes the parts of a production from the front, and puts there what the rule makes of them.
+pub fn apply_object(alloc: Global, rule: ObjectRule, parts: &mut Parts) -> Result<(), Starved>
+    ensures { OnOk result (parts.new ≡ object_rule rule parts.old) }
+{
+    match rule {
+        // Obj = SubInd Init
+        ObjectRule::Variable => {
+            let subtype = parts.type_part().sub_ind(alloc);
+            let value = parts.item().optional_expr();
+            parts.put_declaration(
+                alloc,
+                DeclarationPart::Object(Object {
+                    constant: false,
+                    subtype: Some(subtype),
+                    value,
+                }),
+            )
+        }
+        // Const = := Expr
+        ObjectRule::NamedNumber => {
+            parts.skip();
+            let value = parts.expression().expr(alloc)?;
+            parts.put_declaration(
+                alloc,
+                DeclarationPart::Object(Object {
+                    constant: true,
+                    subtype: None,
+                    value: Some(value),
+                }),
+            )
+        }
+        // Const = SubInd Init
+        ObjectRule::Constant => {
+            let subtype = parts.type_part().sub_ind(alloc);
+            let value = parts.item().optional_expr();
+            parts.put_declaration(
+                alloc,
+                DeclarationPart::Object(Object {
+                    constant: true,
+                    subtype: Some(subtype),
+                    value,
+                }),
+            )
+        }
     }
 }

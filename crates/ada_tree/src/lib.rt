@@ -2,32 +2,17 @@
 #![tactic(auto)]
 
 mod building;
-mod chain;
-mod declaration_parts;
 mod declaration_rules;
-mod ends;
-mod expression_parts;
 mod expression_rules;
-mod item_parts;
 mod item_rules;
 mod laws;
 mod made;
-mod missing;
 mod name_rules;
-mod operations;
-mod operators;
-mod part;
-mod parts;
-mod relations;
 mod rule_table;
 mod rules;
-mod statement_parts;
 mod statement_rules;
-mod subprogram_parts;
 mod subprogram_rules;
-mod type_parts;
 mod type_rules;
-mod unit_parts;
 mod unit_rules;
 mod weave;
 

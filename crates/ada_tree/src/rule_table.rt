@@ -1,26 +1,28 @@
 //! The rule of each production.
 
 use crate::rules::{
-    DeclarationRule, ExpressionRule, ItemRule, NameRule, Rule, StatementRule, SubprogramRule,
-    TypeRule, UnitRule,
+    ArgRule, ArgsRule, AspectRule, AttributeRule, BranchRule, ChoiceRule, ContextRule,
+    DeclarationRule, IndexRule, ItemRule, LogicRule, LoopRule, ModeRule, NameRule, NamesRule,
+    ObjectRule, OperationRule, OptionalRule, OtherDeclarationRule, ParamRule, PrimaryRule,
+    RelationRule, Rule, StatementRule, SubprogramRule, SubtypeRule, TypeFormRule, UnitRule,
 };
 
 /// The rule of each production, in their order.
 pub const RULES: [Rule; 186] = [
     // File = Start Unit
-    Rule::Unit(UnitRule::File),
+    Rule::Context(ContextRule::File),
     // Start = Pragma Start
-    Rule::Unit(UnitRule::ContextPragma),
+    Rule::Context(ContextRule::ContextPragma),
     // Start = with Id Ids ; Start
-    Rule::Unit(UnitRule::ContextWith),
+    Rule::Context(ContextRule::ContextWith),
     // Start = use Id Ids ; Start
-    Rule::Unit(UnitRule::ContextUse),
+    Rule::Context(ContextRule::ContextUse),
     // Start =
-    Rule::Unit(UnitRule::NoContext),
+    Rule::Context(ContextRule::NoContext),
     // Ids = , Id Ids
-    Rule::Unit(UnitRule::Names),
+    Rule::Names(NamesRule::Names),
     // Ids =
-    Rule::Unit(UnitRule::NoNames),
+    Rule::Names(NamesRule::NoNames),
     // Unit = package Pack
     Rule::Unit(UnitRule::UnitPackage),
     // Unit = Sub
@@ -34,9 +36,9 @@ pub const RULES: [Rule; 186] = [
     // Priv =
     Rule::Unit(UnitRule::NoPrivate),
     // EndId = Id
-    Rule::Unit(UnitRule::SomeEndName),
+    Rule::Names(NamesRule::SomeEndName),
     // EndId =
-    Rule::Unit(UnitRule::NoEndName),
+    Rule::Names(NamesRule::NoEndName),
     // Decls = Decl Decls
     Rule::Declaration(DeclarationRule::Decls),
     // Decls =
@@ -48,107 +50,107 @@ pub const RULES: [Rule; 186] = [
     // Decl = Id Ids : Obj ;
     Rule::Declaration(DeclarationRule::Object),
     // Decl = Sub
-    Rule::Declaration(DeclarationRule::DeclSub),
+    Rule::OtherDeclaration(OtherDeclarationRule::DeclSub),
     // Decl = Pragma
-    Rule::Declaration(DeclarationRule::DeclPragma),
+    Rule::OtherDeclaration(OtherDeclarationRule::DeclPragma),
     // Decl = use Id Ids ;
-    Rule::Declaration(DeclarationRule::DeclUse),
+    Rule::OtherDeclaration(OtherDeclarationRule::DeclUse),
     // TypeDef = range Simple .. Simple
-    Rule::Type(TypeRule::Range),
+    Rule::TypeForm(TypeFormRule::Range),
     // TypeDef = mod Simple
-    Rule::Type(TypeRule::Modular),
+    Rule::TypeForm(TypeFormRule::Modular),
     // TypeDef = ( Id Ids )
-    Rule::Type(TypeRule::Enumeration),
+    Rule::TypeForm(TypeFormRule::Enumeration),
     // TypeDef = array ( Index ) of SubInd
-    Rule::Type(TypeRule::Array),
+    Rule::TypeForm(TypeFormRule::Array),
     // TypeDef = record Comp Comps end record
-    Rule::Type(TypeRule::Record),
+    Rule::TypeForm(TypeFormRule::Record),
     // TypeDef = new SubInd
-    Rule::Type(TypeRule::Derived),
+    Rule::TypeForm(TypeFormRule::Derived),
     // Index = Simple IdxTail
-    Rule::Type(TypeRule::Index),
+    Rule::Index(IndexRule::Index),
     // IdxTail = range Box
     Rule::AfterWord,
     // IdxTail = .. Simple
-    Rule::Type(TypeRule::IndexUpTo),
+    Rule::Index(IndexRule::IndexUpTo),
     // IdxTail =
-    Rule::Type(TypeRule::IndexAlone),
+    Rule::Index(IndexRule::IndexAlone),
     // Box = <>
-    Rule::Type(TypeRule::IndexUnconstrained),
+    Rule::Index(IndexRule::IndexUnconstrained),
     // Box = Simple .. Simple
-    Rule::Type(TypeRule::IndexWithin),
+    Rule::Index(IndexRule::IndexWithin),
     // Comp = Id Ids : SubInd ;
-    Rule::Type(TypeRule::Component),
+    Rule::Subtype(SubtypeRule::Component),
     // Comps = Comp Comps
-    Rule::Type(TypeRule::Components),
+    Rule::Subtype(SubtypeRule::Components),
     // Comps =
-    Rule::Type(TypeRule::NoComponents),
+    Rule::Subtype(SubtypeRule::NoComponents),
     // SubInd = Name SubTail
-    Rule::Type(TypeRule::SubInd),
+    Rule::Subtype(SubtypeRule::SubInd),
     // SubTail = range Simple .. Simple
-    Rule::Type(TypeRule::SomeBounds),
+    Rule::Subtype(SubtypeRule::SomeBounds),
     // SubTail =
-    Rule::Type(TypeRule::NoBounds),
+    Rule::Subtype(SubtypeRule::NoBounds),
     // Obj = constant Const
     Rule::AfterWord,
     // Obj = SubInd Init
-    Rule::Declaration(DeclarationRule::Variable),
+    Rule::Object(ObjectRule::Variable),
     // Const = := Expr
-    Rule::Declaration(DeclarationRule::NamedNumber),
+    Rule::Object(ObjectRule::NamedNumber),
     // Const = SubInd Init
-    Rule::Declaration(DeclarationRule::Constant),
+    Rule::Object(ObjectRule::Constant),
     // Init = := Expr
-    Rule::Item(ItemRule::SomeExprAfter),
+    Rule::Optional(OptionalRule::SomeExprAfter),
     // Init =
-    Rule::Item(ItemRule::NoExpr),
+    Rule::Optional(OptionalRule::NoExpr),
     // Sub = procedure Id Params Asp Body
     Rule::Subprogram(SubprogramRule::Procedure),
     // Sub = function Id Params return Name Asp Body
     Rule::Subprogram(SubprogramRule::Function),
     // Params = ( Param ParMore )
-    Rule::Subprogram(SubprogramRule::ParamGroup),
+    Rule::Param(ParamRule::ParamGroup),
     // Params =
-    Rule::Subprogram(SubprogramRule::NoParams),
+    Rule::Param(ParamRule::NoParams),
     // ParMore = ; Param ParMore
-    Rule::Subprogram(SubprogramRule::Params),
+    Rule::Param(ParamRule::Params),
     // ParMore =
-    Rule::Subprogram(SubprogramRule::NoParams),
+    Rule::Param(ParamRule::NoParams),
     // Param = Id Ids : Mode SubInd
-    Rule::Subprogram(SubprogramRule::Param),
+    Rule::Param(ParamRule::Param),
     // Mode = in InOut
     Rule::AfterWord,
     // Mode = out
-    Rule::Subprogram(SubprogramRule::ModeOut),
+    Rule::Mode(ModeRule::ModeOut),
     // Mode =
-    Rule::Subprogram(SubprogramRule::ModeUnstated),
+    Rule::Mode(ModeRule::ModeUnstated),
     // InOut = out
-    Rule::Subprogram(SubprogramRule::ModeInOut),
+    Rule::Mode(ModeRule::ModeInOut),
     // InOut =
-    Rule::Subprogram(SubprogramRule::ModeIn),
+    Rule::Mode(ModeRule::ModeIn),
     // Body = ;
     Rule::Subprogram(SubprogramRule::NoBody),
     // Body = is Decls begin Stmts end EndId ;
     Rule::Subprogram(SubprogramRule::SomeBody),
     // Asp = with Aspect AspMore
-    Rule::Subprogram(SubprogramRule::Aspects),
+    Rule::Aspect(AspectRule::Aspects),
     // Asp =
-    Rule::Subprogram(SubprogramRule::NoAspects),
+    Rule::Aspect(AspectRule::NoAspects),
     // AspMore = , Aspect AspMore
-    Rule::Subprogram(SubprogramRule::Aspects),
+    Rule::Aspect(AspectRule::Aspects),
     // AspMore =
-    Rule::Subprogram(SubprogramRule::NoAspects),
+    Rule::Aspect(AspectRule::NoAspects),
     // Aspect = Id AspVal
-    Rule::Subprogram(SubprogramRule::Aspect),
+    Rule::Aspect(AspectRule::Aspect),
     // AspVal = => Item
-    Rule::Item(ItemRule::SomeItem),
+    Rule::Optional(OptionalRule::SomeItem),
     // AspVal =
-    Rule::Item(ItemRule::NoItem),
+    Rule::Optional(OptionalRule::NoItem),
     // Pragma = pragma Id PragArg ;
-    Rule::Subprogram(SubprogramRule::Pragma),
+    Rule::Aspect(AspectRule::Pragma),
     // PragArg = ( Args )
-    Rule::Item(ItemRule::ArgGroup),
+    Rule::Args(ArgsRule::ArgGroup),
     // PragArg =
-    Rule::Item(ItemRule::NoArgs),
+    Rule::Args(ArgsRule::NoArgs),
     // Stmts = Stmt StMore
     Rule::Statement(StatementRule::Stmts),
     // StMore = Stmt StMore
@@ -160,11 +162,11 @@ pub const RULES: [Rule; 186] = [
     // Stmt = Name Act ;
     Rule::Statement(StatementRule::Name),
     // Stmt = if Expr then Stmts Elsifs Else end if ;
-    Rule::Statement(StatementRule::If),
+    Rule::Branch(BranchRule::If),
     // Stmt = case Expr is When Whens end case ;
-    Rule::Statement(StatementRule::Case),
+    Rule::Branch(BranchRule::Case),
     // Stmt = Head loop Stmts end loop ;
-    Rule::Statement(StatementRule::Loop),
+    Rule::Loop(LoopRule::Loop),
     // Stmt = exit ExWhen ;
     Rule::Statement(StatementRule::Exit),
     // Stmt = return RetVal ;
@@ -172,55 +174,55 @@ pub const RULES: [Rule; 186] = [
     // Stmt = Pragma
     Rule::Statement(StatementRule::StmtPragma),
     // Act = := Expr
-    Rule::Item(ItemRule::SomeExprAfter),
+    Rule::Optional(OptionalRule::SomeExprAfter),
     // Act =
-    Rule::Item(ItemRule::NoExpr),
+    Rule::Optional(OptionalRule::NoExpr),
     // Elsifs = elsif Expr then Stmts Elsifs
-    Rule::Statement(StatementRule::Branches),
+    Rule::Branch(BranchRule::Branches),
     // Elsifs =
-    Rule::Statement(StatementRule::NoBranches),
+    Rule::Branch(BranchRule::NoBranches),
     // Else = else Stmts
     Rule::AfterWord,
     // Else =
     Rule::Statement(StatementRule::NoStmts),
     // When = when Choice Choices => Stmts
-    Rule::Statement(StatementRule::Alternative),
+    Rule::Branch(BranchRule::Alternative),
     // Whens = When Whens
-    Rule::Statement(StatementRule::Alternatives),
+    Rule::Branch(BranchRule::Alternatives),
     // Whens =
-    Rule::Statement(StatementRule::NoAlternatives),
+    Rule::Branch(BranchRule::NoAlternatives),
     // Choice = others
-    Rule::Statement(StatementRule::ChoiceOthers),
+    Rule::Choice(ChoiceRule::ChoiceOthers),
     // Choice = Range
-    Rule::Statement(StatementRule::ChoiceRange),
+    Rule::Choice(ChoiceRule::ChoiceRange),
     // Choices = BAR Choice Choices
-    Rule::Statement(StatementRule::Choices),
+    Rule::Choice(ChoiceRule::Choices),
     // Choices =
-    Rule::Statement(StatementRule::NoChoices),
+    Rule::Choice(ChoiceRule::NoChoices),
     // Head = while Expr
-    Rule::Statement(StatementRule::While),
+    Rule::Loop(LoopRule::While),
     // Head = for Id in Rev Range
-    Rule::Statement(StatementRule::For),
+    Rule::Loop(LoopRule::For),
     // Head =
-    Rule::Statement(StatementRule::Forever),
+    Rule::Loop(LoopRule::Forever),
     // Rev = reverse
-    Rule::Statement(StatementRule::Reverse),
+    Rule::Loop(LoopRule::Reverse),
     // Rev =
-    Rule::Statement(StatementRule::Forward),
+    Rule::Loop(LoopRule::Forward),
     // ExWhen = when Expr
-    Rule::Item(ItemRule::SomeExprAfter),
+    Rule::Optional(OptionalRule::SomeExprAfter),
     // ExWhen =
-    Rule::Item(ItemRule::NoExpr),
+    Rule::Optional(OptionalRule::NoExpr),
     // RetVal = Expr
-    Rule::Item(ItemRule::SomeExpr),
+    Rule::Optional(OptionalRule::SomeExpr),
     // RetVal =
-    Rule::Item(ItemRule::NoExpr),
+    Rule::Optional(OptionalRule::NoExpr),
     // Range = Simple RgTail
     Rule::Item(ItemRule::Range),
     // RgTail = .. Simple
-    Rule::Item(ItemRule::SomeExprAfter),
+    Rule::Optional(OptionalRule::SomeExprAfter),
     // RgTail =
-    Rule::Item(ItemRule::NoExpr),
+    Rule::Optional(OptionalRule::NoExpr),
     // Item = Cond
     Rule::Same,
     // Item = Expr
@@ -238,77 +240,77 @@ pub const RULES: [Rule; 186] = [
     // IfMore =
     Rule::Item(ItemRule::NoArms),
     // IfElse = else Expr
-    Rule::Item(ItemRule::SomeExprAfter),
+    Rule::Optional(OptionalRule::SomeExprAfter),
     // IfElse =
-    Rule::Item(ItemRule::NoExpr),
+    Rule::Optional(OptionalRule::NoExpr),
     // Args = Arg ArgMore
-    Rule::Item(ItemRule::Args),
+    Rule::Args(ArgsRule::Args),
     // ArgMore = , Arg ArgMore
-    Rule::Item(ItemRule::ArgsAfter),
+    Rule::Args(ArgsRule::ArgsAfter),
     // ArgMore =
-    Rule::Item(ItemRule::NoArgs),
+    Rule::Args(ArgsRule::NoArgs),
     // Arg = others => Item
-    Rule::Item(ItemRule::ArgOthers),
+    Rule::Arg(ArgRule::ArgOthers),
     // Arg = Cond ArgVal
-    Rule::Item(ItemRule::ArgItem),
+    Rule::Arg(ArgRule::ArgItem),
     // Arg = Simple ArgMid
-    Rule::Item(ItemRule::ArgSimple),
+    Rule::Arg(ArgRule::ArgSimple),
     // ArgMid = .. Simple ArgVal
-    Rule::Item(ItemRule::ArgUpTo),
+    Rule::Arg(ArgRule::ArgUpTo),
     // ArgMid = RelTail Logic ArgVal
-    Rule::Item(ItemRule::ArgRest),
+    Rule::Arg(ArgRule::ArgRest),
     // ArgVal = => Item
-    Rule::Item(ItemRule::SomeItem),
+    Rule::Optional(OptionalRule::SomeItem),
     // ArgVal =
-    Rule::Item(ItemRule::NoItem),
+    Rule::Optional(OptionalRule::NoItem),
     // Expr = Rel Logic
-    Rule::Expression(ExpressionRule::Grouped),
+    Rule::Operation(OperationRule::Grouped),
     // Logic = and AndRest
-    Rule::Expression(ExpressionRule::Logic),
+    Rule::Logic(LogicRule::Logic),
     // Logic = or OrRest
-    Rule::Expression(ExpressionRule::Logic),
+    Rule::Logic(LogicRule::Logic),
     // Logic = xor Rel XorMore
-    Rule::Expression(ExpressionRule::Operations),
+    Rule::Operation(OperationRule::Operations),
     // Logic =
-    Rule::Expression(ExpressionRule::NoOperations),
+    Rule::Operation(OperationRule::NoOperations),
     // AndRest = then Rel ThenMore
-    Rule::Expression(ExpressionRule::LogicShort),
+    Rule::Logic(LogicRule::LogicShort),
     // AndRest = Rel AndMore
-    Rule::Expression(ExpressionRule::LogicPlain),
+    Rule::Logic(LogicRule::LogicPlain),
     // ThenMore = and then Rel ThenMore
-    Rule::Expression(ExpressionRule::ShortOperations),
+    Rule::Logic(LogicRule::ShortOperations),
     // ThenMore =
-    Rule::Expression(ExpressionRule::NoOperations),
+    Rule::Operation(OperationRule::NoOperations),
     // AndMore = and Rel AndMore
-    Rule::Expression(ExpressionRule::Operations),
+    Rule::Operation(OperationRule::Operations),
     // AndMore =
-    Rule::Expression(ExpressionRule::NoOperations),
+    Rule::Operation(OperationRule::NoOperations),
     // OrRest = else Rel ElseMore
-    Rule::Expression(ExpressionRule::LogicShort),
+    Rule::Logic(LogicRule::LogicShort),
     // OrRest = Rel OrMore
-    Rule::Expression(ExpressionRule::LogicPlain),
+    Rule::Logic(LogicRule::LogicPlain),
     // ElseMore = or else Rel ElseMore
-    Rule::Expression(ExpressionRule::ShortOperations),
+    Rule::Logic(LogicRule::ShortOperations),
     // ElseMore =
-    Rule::Expression(ExpressionRule::NoOperations),
+    Rule::Operation(OperationRule::NoOperations),
     // OrMore = or Rel OrMore
-    Rule::Expression(ExpressionRule::Operations),
+    Rule::Operation(OperationRule::Operations),
     // OrMore =
-    Rule::Expression(ExpressionRule::NoOperations),
+    Rule::Operation(OperationRule::NoOperations),
     // XorMore = xor Rel XorMore
-    Rule::Expression(ExpressionRule::Operations),
+    Rule::Operation(OperationRule::Operations),
     // XorMore =
-    Rule::Expression(ExpressionRule::NoOperations),
+    Rule::Operation(OperationRule::NoOperations),
     // Rel = Simple RelTail
-    Rule::Expression(ExpressionRule::Relation),
+    Rule::Relation(RelationRule::Relation),
     // RelTail = RelOp Simple
-    Rule::Expression(ExpressionRule::Compare),
+    Rule::Relation(RelationRule::Compare),
     // RelTail = in Range
-    Rule::Expression(ExpressionRule::In),
+    Rule::Relation(RelationRule::In),
     // RelTail = not in Range
-    Rule::Expression(ExpressionRule::NotIn),
+    Rule::Relation(RelationRule::NotIn),
     // RelTail =
-    Rule::Expression(ExpressionRule::NoRelation),
+    Rule::Relation(RelationRule::NoRelation),
     // RelOp = =
     Rule::Same,
     // RelOp = /=
@@ -322,47 +324,47 @@ pub const RULES: [Rule; 186] = [
     // RelOp = >=
     Rule::Same,
     // Simple = + Term AddMore
-    Rule::Expression(ExpressionRule::Signed),
+    Rule::Operation(OperationRule::Signed),
     // Simple = - Term AddMore
-    Rule::Expression(ExpressionRule::Signed),
+    Rule::Operation(OperationRule::Signed),
     // Simple = Term AddMore
-    Rule::Expression(ExpressionRule::Grouped),
+    Rule::Operation(OperationRule::Grouped),
     // AddMore = + Term AddMore
-    Rule::Expression(ExpressionRule::Operations),
+    Rule::Operation(OperationRule::Operations),
     // AddMore = - Term AddMore
-    Rule::Expression(ExpressionRule::Operations),
+    Rule::Operation(OperationRule::Operations),
     // AddMore =
-    Rule::Expression(ExpressionRule::NoOperations),
+    Rule::Operation(OperationRule::NoOperations),
     // Term = Factor MulMore
-    Rule::Expression(ExpressionRule::Grouped),
+    Rule::Operation(OperationRule::Grouped),
     // MulMore = * Factor MulMore
-    Rule::Expression(ExpressionRule::Operations),
+    Rule::Operation(OperationRule::Operations),
     // MulMore = / Factor MulMore
-    Rule::Expression(ExpressionRule::Operations),
+    Rule::Operation(OperationRule::Operations),
     // MulMore = mod Factor MulMore
-    Rule::Expression(ExpressionRule::Operations),
+    Rule::Operation(OperationRule::Operations),
     // MulMore = rem Factor MulMore
-    Rule::Expression(ExpressionRule::Operations),
+    Rule::Operation(OperationRule::Operations),
     // MulMore =
-    Rule::Expression(ExpressionRule::NoOperations),
+    Rule::Operation(OperationRule::NoOperations),
     // Factor = abs Primary
-    Rule::Expression(ExpressionRule::Prefixed),
+    Rule::Operation(OperationRule::Prefixed),
     // Factor = not Primary
-    Rule::Expression(ExpressionRule::Prefixed),
+    Rule::Operation(OperationRule::Prefixed),
     // Factor = Primary Pow
-    Rule::Expression(ExpressionRule::Grouped),
+    Rule::Operation(OperationRule::Grouped),
     // Pow = ** Primary
-    Rule::Expression(ExpressionRule::Power),
+    Rule::Operation(OperationRule::Power),
     // Pow =
-    Rule::Expression(ExpressionRule::NoOperations),
+    Rule::Operation(OperationRule::NoOperations),
     // Primary = Num
-    Rule::Name(NameRule::Number),
+    Rule::Primary(PrimaryRule::Number),
     // Primary = null
-    Rule::Name(NameRule::Null),
+    Rule::Primary(PrimaryRule::Null),
     // Primary = Name
-    Rule::Name(NameRule::Primary),
+    Rule::Primary(PrimaryRule::Primary),
     // Primary = ( Args )
-    Rule::Name(NameRule::Group),
+    Rule::Primary(PrimaryRule::Group),
     // Name = Id Suffix
     Rule::Name(NameRule::Name),
     // Suffix = . Id Suffix
@@ -374,9 +376,9 @@ pub const RULES: [Rule; 186] = [
     // Suffix =
     Rule::Name(NameRule::NoSuffixes),
     // Tick = Id
-    Rule::Name(NameRule::NamedAttribute),
+    Rule::Attribute(AttributeRule::NamedAttribute),
     // Tick = range
-    Rule::Name(NameRule::RangeAttribute),
+    Rule::Attribute(AttributeRule::RangeAttribute),
     // Tick = ( Args )
-    Rule::Name(NameRule::Qualified),
+    Rule::Attribute(AttributeRule::Qualified),
 ];

@@ -1,8 +1,8 @@
 //! What a production makes of its parts.
 
-/// What becomes of compilation units and their context (Ada RM 10.1.1, 10.1.2), and packages (Ada RM 7.1, 7.2).
+/// What becomes of a file and its context (Ada RM 10.1.1, 10.1.2).
 #[derive(Clone, Copy)]
-pub enum UnitRule {
+pub enum ContextRule {
     /// `File = Start Unit`
     File,
     /// `Start = with Id Ids ; Start`
@@ -13,10 +13,24 @@ pub enum UnitRule {
     ContextPragma,
     /// `Start =`
     NoContext,
+}
+
+/// What becomes of lists of names and of the name after an `end`.
+#[derive(Clone, Copy)]
+pub enum NamesRule {
     /// `Ids = , Id Ids`
     Names,
     /// `Ids =`
     NoNames,
+    /// `EndId = Id`
+    SomeEndName,
+    /// `EndId =`
+    NoEndName,
+}
+
+/// What becomes of library units: subprograms and packages (Ada RM 7.1, 7.2, 10.1.1).
+#[derive(Clone, Copy)]
+pub enum UnitRule {
     /// `Unit = package Pack`
     UnitPackage,
     /// `Unit = Sub`
@@ -29,13 +43,9 @@ pub enum UnitRule {
     SomePrivate,
     /// `Priv =`
     NoPrivate,
-    /// `EndId = Id`
-    SomeEndName,
-    /// `EndId =`
-    NoEndName,
 }
 
-/// What becomes of declarations (Ada RM 3.2.1, 3.2.2, 3.3.1, 3.11, 8.4).
+/// What becomes of declarations of types, subtypes and objects (Ada RM 3.2.1, 3.2.2, 3.3.1, 3.11).
 #[derive(Clone, Copy)]
 pub enum DeclarationRule {
     /// `Decls = Decl Decls`
@@ -48,12 +58,22 @@ pub enum DeclarationRule {
     Subtype,
     /// `Decl = Id Ids : Obj ;`
     Object,
+}
+
+/// What becomes of subprograms, pragmas and use clauses among declarations (Ada RM 3.11, 8.4).
+#[derive(Clone, Copy)]
+pub enum OtherDeclarationRule {
     /// `Decl = Sub`
     DeclSub,
     /// `Decl = Pragma`
     DeclPragma,
     /// `Decl = use Id Ids ;`
     DeclUse,
+}
+
+/// What becomes of objects and named numbers (Ada RM 3.3.1, 3.3.2).
+#[derive(Clone, Copy)]
+pub enum ObjectRule {
     /// `Obj = SubInd Init`
     Variable,
     /// `Const = := Expr`
@@ -62,9 +82,9 @@ pub enum DeclarationRule {
     Constant,
 }
 
-/// What becomes of type definitions and subtype indications (Ada RM 3.2.2, 3.4, 3.5.1, 3.5.4, 3.6, 3.8).
+/// What becomes of type definitions (Ada RM 3.4, 3.5.1, 3.5.4, 3.6, 3.8).
 #[derive(Clone, Copy)]
-pub enum TypeRule {
+pub enum TypeFormRule {
     /// `TypeDef = range Simple .. Simple`
     Range,
     /// `TypeDef = mod Simple`
@@ -77,6 +97,11 @@ pub enum TypeRule {
     Record,
     /// `TypeDef = new SubInd`
     Derived,
+}
+
+/// What becomes of the indexes of array types (Ada RM 3.6).
+#[derive(Clone, Copy)]
+pub enum IndexRule {
     /// `Index = Simple IdxTail`
     Index,
     /// `IdxTail = .. Simple`
@@ -87,6 +112,11 @@ pub enum TypeRule {
     IndexUnconstrained,
     /// `Box = Simple .. Simple`
     IndexWithin,
+}
+
+/// What becomes of components and subtype indications (Ada RM 3.2.2, 3.8).
+#[derive(Clone, Copy)]
+pub enum SubtypeRule {
     /// `Comp = Id Ids : SubInd ;`
     Component,
     /// `Comps = Comp Comps`
@@ -101,13 +131,22 @@ pub enum TypeRule {
     NoBounds,
 }
 
-/// What becomes of subprograms, aspects and pragmas (Ada RM 2.8, 6.1, 6.3, 13.1.1).
+/// What becomes of subprograms and their bodies (Ada RM 6.1, 6.3).
 #[derive(Clone, Copy)]
 pub enum SubprogramRule {
     /// `Sub = procedure Id Params Asp Body`
     Procedure,
     /// `Sub = function Id Params return Name Asp Body`
     Function,
+    /// `Body = ;`
+    NoBody,
+    /// `Body = is Decls begin Stmts end EndId ;`
+    SomeBody,
+}
+
+/// What becomes of formal parameters (Ada RM 6.1).
+#[derive(Clone, Copy)]
+pub enum ParamRule {
     /// `Params = ( Param ParMore )`
     ParamGroup,
     /// `Params = | ParMore =`
@@ -116,6 +155,11 @@ pub enum SubprogramRule {
     Params,
     /// `Param = Id Ids : Mode SubInd`
     Param,
+}
+
+/// What becomes of modes (Ada RM 6.1).
+#[derive(Clone, Copy)]
+pub enum ModeRule {
     /// `Mode = out`
     ModeOut,
     /// `Mode =`
@@ -124,10 +168,11 @@ pub enum SubprogramRule {
     ModeInOut,
     /// `InOut =`
     ModeIn,
-    /// `Body = ;`
-    NoBody,
-    /// `Body = is Decls begin Stmts end EndId ;`
-    SomeBody,
+}
+
+/// What becomes of aspects and pragmas (Ada RM 2.8, 13.1.1).
+#[derive(Clone, Copy)]
+pub enum AspectRule {
     /// `Asp = with Aspect AspMore | AspMore = , Aspect AspMore`
     Aspects,
     /// `Asp = | AspMore =`
@@ -138,7 +183,7 @@ pub enum SubprogramRule {
     Pragma,
 }
 
-/// What becomes of statements (Ada RM 5, 6.4, 6.5).
+/// What becomes of sequences of statements and of simple statements (Ada RM 5.1, 5.2, 5.7, 6.4, 6.5).
 #[derive(Clone, Copy)]
 pub enum StatementRule {
     /// `Stmts = Stmt StMore | StMore = Stmt StMore`
@@ -149,28 +194,36 @@ pub enum StatementRule {
     Null,
     /// `Stmt = Name Act ;`
     Name,
-    /// `Stmt = if Expr then Stmts Elsifs Else end if ;`
-    If,
-    /// `Stmt = case Expr is When Whens end case ;`
-    Case,
-    /// `Stmt = Head loop Stmts end loop ;`
-    Loop,
     /// `Stmt = exit ExWhen ;`
     Exit,
     /// `Stmt = return RetVal ;`
     Return,
     /// `Stmt = Pragma`
     StmtPragma,
+}
+
+/// What becomes of `if` and `case` (Ada RM 5.3, 5.4).
+#[derive(Clone, Copy)]
+pub enum BranchRule {
+    /// `Stmt = if Expr then Stmts Elsifs Else end if ;`
+    If,
     /// `Elsifs = elsif Expr then Stmts Elsifs`
     Branches,
     /// `Elsifs =`
     NoBranches,
+    /// `Stmt = case Expr is When Whens end case ;`
+    Case,
     /// `When = when Choice Choices => Stmts`
     Alternative,
     /// `Whens = When Whens`
     Alternatives,
     /// `Whens =`
     NoAlternatives,
+}
+
+/// What becomes of the choices of a `case` (Ada RM 3.8.1).
+#[derive(Clone, Copy)]
+pub enum ChoiceRule {
     /// `Choice = others`
     ChoiceOthers,
     /// `Choice = Range`
@@ -179,6 +232,13 @@ pub enum StatementRule {
     Choices,
     /// `Choices =`
     NoChoices,
+}
+
+/// What becomes of loops (Ada RM 5.5).
+#[derive(Clone, Copy)]
+pub enum LoopRule {
+    /// `Stmt = Head loop Stmts end loop ;`
+    Loop,
     /// `Head = while Expr`
     While,
     /// `Head = for Id in Rev Range`
@@ -191,13 +251,9 @@ pub enum StatementRule {
     Forward,
 }
 
-/// What becomes of ranges, arguments, and conditional and quantified expressions (Ada RM 3.5, 4.3, 4.5.7, 4.5.8, 6.4).
+/// What becomes of what may be left out: values and results (Ada RM 3.3.1, 6.5, 13.1.1).
 #[derive(Clone, Copy)]
-pub enum ItemRule {
-    /// `PragArg = ( Args )`
-    ArgGroup,
-    /// `PragArg = | ArgMore =`
-    NoArgs,
+pub enum OptionalRule {
     /// `Init = := Expr, and the like`
     SomeExprAfter,
     /// `RetVal = Expr`
@@ -208,6 +264,11 @@ pub enum ItemRule {
     SomeItem,
     /// `AspVal = | ArgVal =`
     NoItem,
+}
+
+/// What becomes of ranges, and of conditional and quantified expressions (Ada RM 3.5, 4.5.7, 4.5.8).
+#[derive(Clone, Copy)]
+pub enum ItemRule {
     /// `Range = Simple RgTail`
     Range,
     /// `Item = Expr`
@@ -220,10 +281,24 @@ pub enum ItemRule {
     Arms,
     /// `IfMore =`
     NoArms,
+}
+
+/// What becomes of lists of arguments (Ada RM 2.8, 4.3, 6.4).
+#[derive(Clone, Copy)]
+pub enum ArgsRule {
+    /// `PragArg = ( Args )`
+    ArgGroup,
+    /// `PragArg = | ArgMore =`
+    NoArgs,
     /// `Args = Arg ArgMore`
     Args,
     /// `ArgMore = , Arg ArgMore`
     ArgsAfter,
+}
+
+/// What becomes of arguments and associations (Ada RM 4.3, 6.4).
+#[derive(Clone, Copy)]
+pub enum ArgRule {
     /// `Arg = others => Item`
     ArgOthers,
     /// `Arg = Cond ArgVal`
@@ -236,25 +311,39 @@ pub enum ItemRule {
     ArgRest,
 }
 
-/// What becomes of operators (Ada RM 4.4, 4.5).
+/// What becomes of logical operators and short-circuit forms (Ada RM 4.4, 4.5.1).
 #[derive(Clone, Copy)]
-pub enum ExpressionRule {
-    /// `Expr = Rel Logic | Simple = Term AddMore | Term = Factor MulMore | Factor = Primary Pow`
-    Grouped,
+pub enum LogicRule {
     /// `Logic = and AndRest | Logic = or OrRest`
     Logic,
     /// `AndRest = then Rel ThenMore | OrRest = else Rel ElseMore`
     LogicShort,
     /// `AndRest = Rel AndMore | OrRest = Rel OrMore`
     LogicPlain,
-    /// `AddMore = + Term AddMore, and the like`
-    Operations,
     /// `ThenMore = and then Rel ThenMore | ElseMore = or else Rel ElseMore`
     ShortOperations,
+}
+
+/// What becomes of the other operators (Ada RM 4.4, 4.5).
+#[derive(Clone, Copy)]
+pub enum OperationRule {
+    /// `Expr = Rel Logic | Simple = Term AddMore | Term = Factor MulMore | Factor = Primary Pow`
+    Grouped,
+    /// `AddMore = + Term AddMore, and the like`
+    Operations,
     /// `AddMore =, and the like`
     NoOperations,
     /// `Pow = ** Primary`
     Power,
+    /// `Simple = + Term AddMore | Simple = - Term AddMore`
+    Signed,
+    /// `Factor = abs Primary | Factor = not Primary`
+    Prefixed,
+}
+
+/// What becomes of relations (Ada RM 4.4, 4.5.2).
+#[derive(Clone, Copy)]
+pub enum RelationRule {
     /// `Rel = Simple RelTail`
     Relation,
     /// `RelTail = RelOp Simple`
@@ -265,15 +354,11 @@ pub enum ExpressionRule {
     NotIn,
     /// `RelTail =`
     NoRelation,
-    /// `Simple = + Term AddMore | Simple = - Term AddMore`
-    Signed,
-    /// `Factor = abs Primary | Factor = not Primary`
-    Prefixed,
 }
 
-/// What becomes of primaries and names (Ada RM 4.1, 4.4).
+/// What becomes of primaries (Ada RM 4.4).
 #[derive(Clone, Copy)]
-pub enum NameRule {
+pub enum PrimaryRule {
     /// `Primary = Num`
     Number,
     /// `Primary = null`
@@ -282,6 +367,11 @@ pub enum NameRule {
     Primary,
     /// `Primary = ( Args )`
     Group,
+}
+
+/// What becomes of names and their suffixes (Ada RM 4.1).
+#[derive(Clone, Copy)]
+pub enum NameRule {
     /// `Name = Id Suffix`
     Name,
     /// `Suffix = . Id Suffix`
@@ -292,6 +382,11 @@ pub enum NameRule {
     Applied,
     /// `Suffix =`
     NoSuffixes,
+}
+
+/// What becomes of what stands after a tick (Ada RM 4.1.4, 4.7).
+#[derive(Clone, Copy)]
+pub enum AttributeRule {
     /// `Tick = Id`
     NamedAttribute,
     /// `Tick = range`
@@ -307,12 +402,31 @@ pub enum Rule {
     Same,
     /// The second part stays as it is, without the word before it.
     AfterWord,
+    Context(ContextRule),
+    Names(NamesRule),
     Unit(UnitRule),
     Declaration(DeclarationRule),
-    Type(TypeRule),
+    OtherDeclaration(OtherDeclarationRule),
+    Object(ObjectRule),
+    TypeForm(TypeFormRule),
+    Index(IndexRule),
+    Subtype(SubtypeRule),
     Subprogram(SubprogramRule),
+    Param(ParamRule),
+    Mode(ModeRule),
+    Aspect(AspectRule),
     Statement(StatementRule),
+    Branch(BranchRule),
+    Choice(ChoiceRule),
+    Loop(LoopRule),
+    Optional(OptionalRule),
     Item(ItemRule),
-    Expression(ExpressionRule),
+    Args(ArgsRule),
+    Arg(ArgRule),
+    Logic(LogicRule),
+    Operation(OperationRule),
+    Relation(RelationRule),
+    Primary(PrimaryRule),
     Name(NameRule),
+    Attribute(AttributeRule),
 }

@@ -1,329 +1,229 @@
 //! What becomes of statements (Ada RM 5, 6.4, 6.5).
 
 ghost use Rattle.std.specs.Prelude.{◌≡◌, OnOk};
-ghost use Rattle.ada_tree.specs.Statements.{statement_rule};
+ghost use Rattle.ada_tree.specs.Statements.{branch_rule, choice_rule, loop_rule, statement_rule};
 
-use crate::chain::Chain;
-use crate::operations::joined;
-use crate::part::{ChoicePart, Edged, StatementPart};
-use crate::parts::Parts;
-use crate::relations::named_action;
-use crate::rules::StatementRule;
-use ada_syntax::{Action, Alternative, Branch, Choice, LoopHead, Stmt};
-use grammar_table::Starved;
+use crate::rules::{BranchRule, ChoiceRule, LoopRule, StatementRule};
+use ada_syntax::{Action, Alternative, Branch, Choice, LoopHead};
 use std::alloc::Global;
-
-/// `Stmts = Stmt StMore | StMore = Stmt StMore`
-fn apply_stmts(alloc: Global, parts: &mut Parts) -> Result<(), Starved>
-    ensures { OnOk result (parts.new ≡ statement_rule StatementRule.Stmts parts.old) }
-{
-    let stmt = parts.stmt();
-    let mut stmts = parts.stmts(alloc);
-    stmts.put_first(stmt)?;
-    parts.put_statement(alloc, StatementPart::Stmts(stmts))
-}
-
-/// `Stmt = null ;`
-fn apply_null(alloc: Global, parts: &mut Parts) -> Result<(), Starved>
-    ensures { OnOk result (parts.new ≡ statement_rule StatementRule.Null parts.old) }
-{
-    let start = parts.place();
-    let end = parts.place();
-    parts.put_statement(
-        alloc,
-        StatementPart::Stmt(Stmt {
-            span: joined(start, end),
-            action: Action::Null,
-        }),
-    )
-}
-
-/// `Stmt = Name Act ;`
-fn apply_name(alloc: Global, parts: &mut Parts) -> Result<(), Starved>
-    ensures { OnOk result (parts.new ≡ statement_rule StatementRule.Name parts.old) }
-{
-    let name = parts.name(alloc);
-    let value = parts.optional_expr();
-    let end = parts.place();
-    parts.put_statement(
-        alloc,
-        StatementPart::Stmt(Stmt {
-            span: joined(name.span, end),
-            action: named_action(name, value),
-        }),
-    )
-}
-
-/// `Stmt = if Expr then Stmts Elsifs Else end if ;`
-fn apply_if(alloc: Global, parts: &mut Parts) -> Result<(), Starved>
-    ensures { OnOk result (parts.new ≡ statement_rule StatementRule.If parts.old) }
-{
-    let start = parts.place();
-    let condition = parts.expr();
-    parts.skip();
-    let stmts = parts.stmts(alloc);
-    let mut branches = parts.branches(alloc);
-    let otherwise = parts.stmts(alloc);
-    parts.skip();
-    parts.skip();
-    let end = parts.place();
-    branches.put_first(Branch {
-        condition,
-        body: stmts.into_items(),
-    })?;
-    parts.put_statement(
-        alloc,
-        StatementPart::Stmt(Stmt {
-            span: joined(start, end),
-            action: Action::If(branches.into_items(), otherwise.into_items()),
-        }),
-    )
-}
-
-/// `Stmt = case Expr is When Whens end case ;`
-fn apply_case(alloc: Global, parts: &mut Parts) -> Result<(), Starved>
-    ensures { OnOk result (parts.new ≡ statement_rule StatementRule.Case parts.old) }
-{
-    let start = parts.place();
-    let selector = parts.expr();
-    parts.skip();
-    let first = parts.alternative(alloc);
-    let mut alternatives = parts.alternatives(alloc);
-    parts.skip();
-    parts.skip();
-    let end = parts.place();
-    alternatives.put_first(first)?;
-    parts.put_statement(
-        alloc,
-        StatementPart::Stmt(Stmt {
-            span: joined(start, end),
-            action: Action::Case(selector, alternatives.into_items()),
-        }),
-    )
-}
-
-/// `Stmt = Head loop Stmts end loop ;`
-fn apply_loop(alloc: Global, parts: &mut Parts) -> Result<(), Starved>
-    ensures { OnOk result (parts.new ≡ statement_rule StatementRule.Loop parts.old) }
-{
-    let head = parts.loop_head();
-    let start = parts.place();
-    let stmts = parts.stmts(alloc);
-    parts.skip();
-    parts.skip();
-    let end = parts.place();
-    parts.put_statement(
-        alloc,
-        StatementPart::Stmt(Stmt {
-            span: joined(head.edge.unwrap_or(start), end),
-            action: Action::Loop(head.value, stmts.into_items()),
-        }),
-    )
-}
-
-/// `Stmt = exit ExWhen ;`
-fn apply_exit(alloc: Global, parts: &mut Parts) -> Result<(), Starved>
-    ensures { OnOk result (parts.new ≡ statement_rule StatementRule.Exit parts.old) }
-{
-    let start = parts.place();
-    let condition = parts.optional_expr();
-    let end = parts.place();
-    parts.put_statement(
-        alloc,
-        StatementPart::Stmt(Stmt {
-            span: joined(start, end),
-            action: Action::Exit(condition),
-        }),
-    )
-}
-
-/// `Stmt = return RetVal ;`
-fn apply_return(alloc: Global, parts: &mut Parts) -> Result<(), Starved>
-    ensures { OnOk result (parts.new ≡ statement_rule StatementRule.Return parts.old) }
-{
-    let start = parts.place();
-    let value = parts.optional_expr();
-    let end = parts.place();
-    parts.put_statement(
-        alloc,
-        StatementPart::Stmt(Stmt {
-            span: joined(start, end),
-            action: Action::Return(value),
-        }),
-    )
-}
-
-/// `Stmt = Pragma`
-fn apply_stmt_pragma(alloc: Global, parts: &mut Parts) -> Result<(), Starved>
-    ensures { OnOk result (parts.new ≡ statement_rule StatementRule.StmtPragma parts.old) }
-{
-    let pragma = parts.pragma(alloc);
-    parts.put_statement(
-        alloc,
-        StatementPart::Stmt(Stmt {
-            span: pragma.span,
-            action: Action::Pragma(pragma),
-        }),
-    )
-}
-
-/// `Elsifs = elsif Expr then Stmts Elsifs`
-fn apply_branches(alloc: Global, parts: &mut Parts) -> Result<(), Starved>
-    ensures { OnOk result (parts.new ≡ statement_rule StatementRule.Branches parts.old) }
-{
-    parts.skip();
-    let condition = parts.expr();
-    parts.skip();
-    let stmts = parts.stmts(alloc);
-    let mut branches = parts.branches(alloc);
-    branches.put_first(Branch {
-        condition,
-        body: stmts.into_items(),
-    })?;
-    parts.put_statement(alloc, StatementPart::Branches(branches))
-}
-
-/// `When = when Choice Choices => Stmts`
-fn apply_alternative(alloc: Global, parts: &mut Parts) -> Result<(), Starved>
-    ensures { OnOk result (parts.new ≡ statement_rule StatementRule.Alternative parts.old) }
-{
-    parts.skip();
-    let choice = parts.choice();
-    let mut choices = parts.choices(alloc);
-    parts.skip();
-    let stmts = parts.stmts(alloc);
-    choices.put_first(choice)?;
-    parts.put_statement(
-        alloc,
-        StatementPart::Alternative(Alternative {
-            choices: choices.into_items(),
-            body: stmts.into_items(),
-        }),
-    )
-}
-
-/// `Whens = When Whens`
-fn apply_alternatives(alloc: Global, parts: &mut Parts) -> Result<(), Starved>
-    ensures { OnOk result (parts.new ≡ statement_rule StatementRule.Alternatives parts.old) }
-{
-    let alternative = parts.alternative(alloc);
-    let mut alternatives = parts.alternatives(alloc);
-    alternatives.put_first(alternative)?;
-    parts.put_statement(alloc, StatementPart::Alternatives(alternatives))
-}
-
-/// `Choice = others`
-fn apply_choice_others(alloc: Global, parts: &mut Parts) -> Result<(), Starved>
-    ensures { OnOk result (parts.new ≡ statement_rule StatementRule.ChoiceOthers parts.old) }
-{
-    parts.skip();
-    parts.put_choice(alloc, ChoicePart::Choice(Choice::Others))
-}
-
-/// `Choice = Range`
-fn apply_choice_range(alloc: Global, parts: &mut Parts) -> Result<(), Starved>
-    ensures { OnOk result (parts.new ≡ statement_rule StatementRule.ChoiceRange parts.old) }
-{
-    let range = parts.range();
-    parts.put_choice(alloc, ChoicePart::Choice(Choice::Range(range)))
-}
-
-/// `Choices = "|" Choice Choices`
-fn apply_choices(alloc: Global, parts: &mut Parts) -> Result<(), Starved>
-    ensures { OnOk result (parts.new ≡ statement_rule StatementRule.Choices parts.old) }
-{
-    parts.skip();
-    let choice = parts.choice();
-    let mut choices = parts.choices(alloc);
-    choices.put_first(choice)?;
-    parts.put_choice(alloc, ChoicePart::Choices(choices))
-}
-
-/// `Head = while Expr`
-fn apply_while(alloc: Global, parts: &mut Parts) -> Result<(), Starved>
-    ensures { OnOk result (parts.new ≡ statement_rule StatementRule.While parts.old) }
-{
-    let start = parts.place();
-    let condition = parts.expr();
-    parts.put_choice(
-        alloc,
-        ChoicePart::LoopHead(Edged {
-            value: LoopHead::While(condition),
-            edge: Some(start),
-        }),
-    )
-}
-
-/// `Head = for Id in Rev Range`
-fn apply_for(alloc: Global, parts: &mut Parts) -> Result<(), Starved>
-    ensures { OnOk result (parts.new ≡ statement_rule StatementRule.For parts.old) }
-{
-    let start = parts.place();
-    let name = parts.place();
-    parts.skip();
-    let reverse = parts.flag();
-    let range = parts.range();
-    parts.put_choice(
-        alloc,
-        ChoicePart::LoopHead(Edged {
-            value: LoopHead::For(name, reverse, range),
-            edge: Some(start),
-        }),
-    )
-}
-
-/// `Rev = reverse`
-fn apply_reverse(alloc: Global, parts: &mut Parts) -> Result<(), Starved>
-    ensures { OnOk result (parts.new ≡ statement_rule StatementRule.Reverse parts.old) }
-{
-    parts.skip();
-    parts.put_choice(alloc, ChoicePart::Flag(true))
-}
+use tree_parts::{Chain, ChoicePart, Edged, Parts, Starved, StatementPart, joined, named_action};
 
 /// Takes the parts of a production from the front, and puts there what the rule makes of them.
-pub fn apply_statement_rule(
-    alloc: Global,
-    rule: StatementRule,
-    parts: &mut Parts,
-) -> Result<(), Starved>
+pub fn apply_statement(alloc: Global, rule: StatementRule, parts: &mut Parts) -> Result<(), Starved>
     ensures { OnOk result (parts.new ≡ statement_rule rule parts.old) }
 {
     match rule {
-        StatementRule::Stmts => apply_stmts(alloc, parts),
+        // Stmts = Stmt StMore | StMore = Stmt StMore
+        StatementRule::Stmts => {
+            let stmt = parts.statement(alloc).stmt(alloc)?;
+            let stmts = parts.statement(alloc).stmts(alloc).with_first(stmt)?;
+            parts.put_statement(alloc, StatementPart::Stmts(stmts))
+        }
         // StMore = | Else =
         StatementRule::NoStmts => {
             parts.put_statement(alloc, StatementPart::Stmts(Chain::new(alloc)))
         }
-        StatementRule::Null => apply_null(alloc, parts),
-        StatementRule::Name => apply_name(alloc, parts),
-        StatementRule::If => apply_if(alloc, parts),
-        StatementRule::Case => apply_case(alloc, parts),
-        StatementRule::Loop => apply_loop(alloc, parts),
-        StatementRule::Exit => apply_exit(alloc, parts),
-        StatementRule::Return => apply_return(alloc, parts),
-        StatementRule::StmtPragma => apply_stmt_pragma(alloc, parts),
-        StatementRule::Branches => apply_branches(alloc, parts),
+        // Stmt = null ;
+        StatementRule::Null => {
+            let start = parts.place();
+            let end = parts.place();
+            parts.put_stmt(alloc, joined(start, end), Action::Null)
+        }
+        // Stmt = Name Act ;
+        StatementRule::Name => {
+            let name = parts.expression().name(alloc);
+            let value = parts.item().optional_expr();
+            let end = parts.place();
+            parts.put_stmt(alloc, joined(name.span, end), named_action(name, value))
+        }
+        // Stmt = exit ExWhen ;
+        StatementRule::Exit => {
+            let start = parts.place();
+            let condition = parts.item().optional_expr();
+            let end = parts.place();
+            parts.put_stmt(alloc, joined(start, end), Action::Exit(condition))
+        }
+        // Stmt = return RetVal ;
+        StatementRule::Return => {
+            let start = parts.place();
+            let value = parts.item().optional_expr();
+            let end = parts.place();
+            parts.put_stmt(alloc, joined(start, end), Action::Return(value))
+        }
+        // Stmt = Pragma
+        StatementRule::StmtPragma => {
+            let pragma = parts.declaration().pragma(alloc);
+            parts.put_stmt(alloc, pragma.span, Action::Pragma(pragma))
+        }
+    }
+}
+
+/// Takes the parts of a production from the front, and puts there what the rule makes of them.
+pub fn apply_branch(alloc: Global, rule: BranchRule, parts: &mut Parts) -> Result<(), Starved>
+    ensures { OnOk result (parts.new ≡ branch_rule rule parts.old) }
+{
+    match rule {
+        // Stmt = if Expr then Stmts Elsifs Else end if ;
+        BranchRule::If => {
+            let start = parts.place();
+            let condition = parts.expression().expr(alloc)?;
+            parts.skip();
+            let stmts = parts.statement(alloc).stmts(alloc);
+            let branches = parts.statement(alloc).branches(alloc);
+            let otherwise = parts.statement(alloc).stmts(alloc);
+            parts.skip();
+            parts.skip();
+            let end = parts.place();
+            let branches = branches.with_first(Branch {
+                condition,
+                body: stmts.into_items(),
+            })?;
+            parts.put_stmt(
+                alloc,
+                joined(start, end),
+                Action::If(branches.into_items(), otherwise.into_items()),
+            )
+        }
+        // Elsifs = elsif Expr then Stmts Elsifs
+        BranchRule::Branches => {
+            parts.skip();
+            let condition = parts.expression().expr(alloc)?;
+            parts.skip();
+            let stmts = parts.statement(alloc).stmts(alloc);
+            let branches = parts.statement(alloc).branches(alloc).with_first(Branch {
+                condition,
+                body: stmts.into_items(),
+            })?;
+            parts.put_statement(alloc, StatementPart::Branches(branches))
+        }
         // Elsifs =
-        StatementRule::NoBranches => {
+        BranchRule::NoBranches => {
             parts.put_statement(alloc, StatementPart::Branches(Chain::new(alloc)))
         }
-        StatementRule::Alternative => apply_alternative(alloc, parts),
-        StatementRule::Alternatives => apply_alternatives(alloc, parts),
+        // Stmt = case Expr is When Whens end case ;
+        BranchRule::Case => {
+            let start = parts.place();
+            let selector = parts.expression().expr(alloc)?;
+            parts.skip();
+            let first = parts.statement(alloc).alternative(alloc);
+            let alternatives = parts.statement(alloc).alternatives(alloc);
+            parts.skip();
+            parts.skip();
+            let end = parts.place();
+            let alternatives = alternatives.with_first(first)?;
+            parts.put_stmt(
+                alloc,
+                joined(start, end),
+                Action::Case(selector, alternatives.into_items()),
+            )
+        }
+        // When = when Choice Choices => Stmts
+        BranchRule::Alternative => {
+            parts.skip();
+            let choice = parts.choice().choice();
+            let choices = parts.choice().choices(alloc);
+            parts.skip();
+            let stmts = parts.statement(alloc).stmts(alloc);
+            let choices = choices.with_first(choice)?;
+            parts.put_statement(
+                alloc,
+                StatementPart::Alternative(Alternative {
+                    choices: choices.into_items(),
+                    body: stmts.into_items(),
+                }),
+            )
+        }
+        // Whens = When Whens
+        BranchRule::Alternatives => {
+            let alternative = parts.statement(alloc).alternative(alloc);
+            let alternatives = parts
+                .statement(alloc)
+                .alternatives(alloc)
+                .with_first(alternative)?;
+            parts.put_statement(alloc, StatementPart::Alternatives(alternatives))
+        }
         // Whens =
-        StatementRule::NoAlternatives => {
+        BranchRule::NoAlternatives => {
             parts.put_statement(alloc, StatementPart::Alternatives(Chain::new(alloc)))
         }
-        StatementRule::ChoiceOthers => apply_choice_others(alloc, parts),
-        StatementRule::ChoiceRange => apply_choice_range(alloc, parts),
-        StatementRule::Choices => apply_choices(alloc, parts),
-        // Choices =
-        StatementRule::NoChoices => {
-            parts.put_choice(alloc, ChoicePart::Choices(Chain::new(alloc)))
+    }
+}
+
+/// Takes the parts of a production from the front, and puts there what the rule makes of them.
+pub fn apply_choice(alloc: Global, rule: ChoiceRule, parts: &mut Parts) -> Result<(), Starved>
+    ensures { OnOk result (parts.new ≡ choice_rule rule parts.old) }
+{
+    match rule {
+        // Choice = others
+        ChoiceRule::ChoiceOthers => {
+            parts.skip();
+            parts.put_choice(alloc, ChoicePart::Choice(Choice::Others))
         }
-        StatementRule::While => apply_while(alloc, parts),
-        StatementRule::For => apply_for(alloc, parts),
+        // Choice = Range
+        ChoiceRule::ChoiceRange => {
+            let range = parts.item().range(alloc)?;
+            parts.put_choice(alloc, ChoicePart::Choice(Choice::Range(range)))
+        }
+        // Choices = "|" Choice Choices
+        ChoiceRule::Choices => {
+            parts.skip();
+            let choice = parts.choice().choice();
+            let choices = parts.choice().choices(alloc).with_first(choice)?;
+            parts.put_choice(alloc, ChoicePart::Choices(choices))
+        }
+        // Choices =
+        ChoiceRule::NoChoices => { parts.put_choice(alloc, ChoicePart::Choices(Chain::new(alloc))) }
+    }
+}
+
+/// Takes the parts of a production from the front, and puts there what the rule makes of them.
+pub fn apply_loop(alloc: Global, rule: LoopRule, parts: &mut Parts) -> Result<(), Starved>
+    ensures { OnOk result (parts.new ≡ loop_rule rule parts.old) }
+{
+    match rule {
+        // Stmt = Head loop Stmts end loop ;
+        LoopRule::Loop => {
+            let head = parts.choice().loop_head();
+            let start = parts.place();
+            let stmts = parts.statement(alloc).stmts(alloc);
+            parts.skip();
+            parts.skip();
+            let end = parts.place();
+            parts.put_stmt(
+                alloc,
+                joined(head.edge.unwrap_or(start), end),
+                Action::Loop(head.value, stmts.into_items()),
+            )
+        }
+        // Head = while Expr
+        LoopRule::While => {
+            let start = parts.place();
+            let condition = parts.expression().expr(alloc)?;
+            parts.put_choice(
+                alloc,
+                ChoicePart::LoopHead(Edged {
+                    value: LoopHead::While(condition),
+                    edge: Some(start),
+                }),
+            )
+        }
+        // Head = for Id in Rev Range
+        LoopRule::For => {
+            let start = parts.place();
+            let name = parts.place();
+            parts.skip();
+            let reverse = parts.choice().flag();
+            let range = parts.item().range(alloc)?;
+            parts.put_choice(
+                alloc,
+                ChoicePart::LoopHead(Edged {
+                    value: LoopHead::For(name, reverse, range),
+                    edge: Some(start),
+                }),
+            )
+        }
         // Head =
-        StatementRule::Forever => {
+        LoopRule::Forever => {
             parts.put_choice(
                 alloc,
                 ChoicePart::LoopHead(Edged {
@@ -332,8 +232,12 @@ pub fn apply_statement_rule(
                 }),
             )
         }
-        StatementRule::Reverse => apply_reverse(alloc, parts),
+        // Rev = reverse
+        LoopRule::Reverse => {
+            parts.skip();
+            parts.put_choice(alloc, ChoicePart::Flag(true))
+        }
         // Rev =
-        StatementRule::Forward => { parts.put_choice(alloc, ChoicePart::Flag(false)) }
+        LoopRule::Forward => { parts.put_choice(alloc, ChoicePart::Flag(false)) }
     }
 }

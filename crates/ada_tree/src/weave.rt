@@ -6,10 +6,10 @@ ghost use Rattle.grammar_table.specs.Parses.{right_of};
 ghost use Rattle.grammar_table.specs.Productions.{productions};
 ghost use Rattle.ada_tree.specs.Moves.{after_phrase, takes_before, woven};
 
-use crate::chain::Chain;
 use grammar_table::{Grammar, Nonterminal, Starved, Symbol};
 use sqlite_items::Items;
 use std::alloc::Global;
+use tree_parts::Chain;
 
 /// A step of a parse.
 #[derive(Clone, Copy)]

@@ -60,7 +60,7 @@ fn placed_in(alloc: Global, text: &[u8], expr: &Expr) -> Result<Placed, FormFaul
     ensures ok { IfOk result (λ o. placed_in text.now expr.now ≡ Some o) }
     ensures not_built { result ≡ Err FormFault.NotBuilt → placed_in text.now expr.now ≡ None }
 {
-    let operand = operand_in(alloc, text, &expr.node)?;
+    let operand = operand_in(alloc, text, expr.node.get())?;
     Ok(Placed {
         place: place_at(text, expr.span),
         operand,
@@ -122,7 +122,7 @@ fn comparison_in(
 {
     match node {
         ExprNode::Binary(_, operator, left, right) => {
-            assertion_of(alloc, text, place, left.get(), *operator, right.get())
+            assertion_of(alloc, text, place, left, *operator, right)
         }
         _ => Err(FormFault::NotBuilt),
     }
@@ -143,7 +143,7 @@ fn chosen_in(choice: &ArgChoice<Expr>) -> Option<&Expr>
     ensures { option_copied result ≡ chosen_in choice.entry.now }
 {
     match choice {
-        ArgChoice::Item(item) => plain_in(&item.form),
+        ArgChoice::Item(item) => plain_in(item.form.get()),
         _ => None,
     }
 }
@@ -170,7 +170,7 @@ fn pragma_in(alloc: Global, text: &[u8], pragma: &Pragma) -> Result<Assertion, F
     let Some(condition) = argument_in(pragma.args.as_slice()) else {
         return Err(FormFault::NotBuilt);
     };
-    comparison_in(alloc, text, place_at(text, pragma.span), &condition.node)
+    comparison_in(alloc, text, place_at(text, pragma.span), condition.node.get())
 }
 
 /// The assertion that a statement is.
@@ -179,7 +179,7 @@ fn statement_in(alloc: Global, text: &[u8], statement: &Stmt) -> Result<Assertio
     ensures ok { IfOk result (λ a. statement_in text.now statement.now ≡ Some a) }
     ensures not_built { result ≡ Err FormFault.NotBuilt → statement_in text.now statement.now ≡ None }
 {
-    match &statement.action {
+    match statement.action.get() {
         Action::Pragma(pragma) => pragma_in(alloc, text, pragma),
         _ => Err(FormFault::NotBuilt),
     }

@@ -160,7 +160,7 @@ fn shape_of(alloc: Global, text: &[u8], unit: &SourceUnit) -> Result<FirstForm, 
     ensures not_built { result ≡ Err FormFault.NotBuilt → shape_of text.now unit.now ≡ None }
 {
     if unit.context.as_slice().is_empty() {
-        unit_in(alloc, text, &unit.unit.form)
+        unit_in(alloc, text, unit.unit.form.get())
     } else {
         Err(FormFault::NotBuilt)
     }

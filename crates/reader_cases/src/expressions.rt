@@ -51,7 +51,7 @@ fn name_sign(name: &Name<Expr>) -> &'static str {
 
 /// The root of an expression: its operator, `1` for a number, `x` for a name and `()` for a group.
 fn sign(expr: &Expr) -> &'static str {
-    match &expr.node {
+    match expr.node.get() {
         ExprNode::Number(_) => "1",
         ExprNode::Null => "null",
         ExprNode::Name(name) => name_sign(name),
@@ -71,7 +71,7 @@ fn range_sign(range: &Range<Expr>) -> &'static str {
 }
 
 fn item_sign(item: &Item<Expr>) -> &'static str {
-    match &item.form {
+    match item.form.get() {
         ItemForm::Plain(expr) => sign(expr),
         ItemForm::If(_, _) => "if",
         ItemForm::Quantified(Quantifier::All, _, _, _) => "for all",
@@ -101,10 +101,10 @@ pub struct Roots {
 
 /// The roots of an expression. Of a group they are those of its first two items.
 pub fn roots_of(expr: &Expr) -> Roots {
-    let (left, right) = match &expr.node {
-        ExprNode::Unary(_, _, operand) => (sign(operand.get()), ""),
-        ExprNode::Binary(_, _, left, right) => (sign(left.get()), sign(right.get())),
-        ExprNode::Member(_, _, operand, range) => (sign(operand.get()), range_sign(range.get())),
+    let (left, right) = match expr.node.get() {
+        ExprNode::Unary(_, _, operand) => (sign(operand), ""),
+        ExprNode::Binary(_, _, left, right) => (sign(left), sign(right)),
+        ExprNode::Member(_, _, operand, range) => (sign(operand), range_sign(range.get())),
         ExprNode::Group(args) => {
             let args = args.as_slice();
             (arg_sign(args.first()), arg_sign(args.get(1)))

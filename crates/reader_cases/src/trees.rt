@@ -28,7 +28,7 @@ fn push_none(out: &mut String, refusal: ReadRefusal) -> Result<(), AllocError> {
 
 /// The body of the subprogram of a file, where it is one.
 fn body_of(unit: &SourceUnit) -> Option<&Body<Decl>> {
-    match &unit.unit.form {
+    match unit.unit.form.get() {
         UnitForm::Sub(
             Sub {
                 body: Some(body),
@@ -54,13 +54,7 @@ fn first_declaration(unit: &SourceUnit) -> Option<&Decl> {
 }
 
 fn push_assigned(out: &mut String, statement: Option<&Stmt>) -> Result<(), AllocError> {
-    let Some(
-        Stmt {
-            action: Action::Assign(_, value),
-            ..
-        },
-    ) = statement
-    else {
+    let Some(Action::Assign(_, value)) = statement.map(|stmt| stmt.action.get()) else {
         return out.push_str("no assignment");
     };
     let roots = roots_of(value);
@@ -80,7 +74,7 @@ pub fn push_value(alloc: Global, out: &mut String, text: &[u8]) -> Result<(), Al
 
 /// The form of a statement, with how many branches, alternatives, statements or arguments it has.
 fn statement_form(statement: &Stmt) -> Counted {
-    match &statement.action {
+    match statement.action.get() {
         Action::Null => ("null", 0),
         Action::Call(_) => ("call", 0),
         Action::Assign(_, _) => (":=", 0),
@@ -150,8 +144,8 @@ fn subprogram_form(sub: &Sub<Decl>) -> Counted {
 
 /// The form of a declaration, with how many names, parameters or parts it has.
 fn declaration_form(declaration: &Decl) -> Counted {
-    match &declaration.form {
-        DeclForm::Type(_, definition) => type_form(&definition.form),
+    match declaration.form.get() {
+        DeclForm::Type(_, definition) => type_form(definition.form.get()),
         DeclForm::Subtype(_, subtype) if subtype.bounds.is_some() => ("subtype range", 0),
         DeclForm::Subtype(_, _) => ("subtype", 0),
         DeclForm::Object(names, object) => (object_form(object), names.len()),
@@ -198,7 +192,7 @@ pub fn push_unit(alloc: Global, out: &mut String, text: &[u8]) -> Result<(), All
 {
     match read(alloc, text) {
         Ok(unit) => {
-            let (form, declarations) = unit_form(&unit.unit.form);
+            let (form, declarations) = unit_form(unit.unit.form.get());
             let context = unit.context.len();
             write!(out, "{form} {declarations} {context}")
         }

@@ -1,6 +1,6 @@
 //! A list that is made from its last item to its first.
 
-ghost use Rattle.std.specs.Prelude.{◌≡◌, [], ◌∷◌, MatchOption, OnOk, length};
+ghost use Rattle.std.specs.Prelude.{◌≡◌, [], ◌∷◌, IfOk, MatchOption, OnOk, length};
 
 use sqlite_items::Items;
 use std::alloc::{AllocError, Global};
@@ -61,5 +61,14 @@ impl<T: Drop> Chain<T> {
     {
         self.backward.push(item)?;
         Ok(())
+    }
+
+    /// The same list with an item before it.
+    pub fn with_first(self, item: T) -> Result<Chain<T>, AllocError>
+        ensures { IfOk result (λ all. all ≡ item ∷ self) }
+    {
+        let mut all = self;
+        all.put_first(item)?;
+        Ok(all)
     }
 }

@@ -9,11 +9,9 @@ use Rattle.ada_syntax.specs.declared.expressions.Attribute.{Attribute}
 use Rattle.ada_syntax.specs.declared.expressions.Attribute.TheVariants as attribute
 use Rattle.ada_syntax.specs.declared.expressions.Expr.{Expr}
 use Rattle.ada_syntax.specs.declared.expressions.Item.{Item}
-use Rattle.ada_syntax.specs.declared.expressions.ItemForm.TheVariants as item_form
 use Rattle.ada_syntax.specs.declared.expressions.Name.{Name}
 use Rattle.ada_syntax.specs.declared.expressions.Range.{Range}
 use Rattle.ada_syntax.specs.declared.expressions.Suffix.{Suffix}
-use Rattle.ada_syntax.specs.declared.statements.Action.TheVariants as action
 use Rattle.ada_syntax.specs.declared.statements.Alternative.{Alternative}
 use Rattle.ada_syntax.specs.declared.statements.Branch.{Branch}
 use Rattle.ada_syntax.specs.declared.statements.Choice.{Choice}
@@ -27,7 +25,6 @@ use Rattle.ada_syntax.specs.declared.declarations.Body.{Body}
 use Rattle.ada_syntax.specs.declared.declarations.Bounds.{Bounds}
 use Rattle.ada_syntax.specs.declared.declarations.Component.{Component}
 use Rattle.ada_syntax.specs.declared.declarations.Decl.{Decl}
-use Rattle.ada_syntax.specs.declared.declarations.DeclForm.TheVariants as decl_form
 use Rattle.ada_syntax.specs.declared.declarations.Index.{Index}
 use Rattle.ada_syntax.specs.declared.declarations.IndexForm.{IndexForm}
 use Rattle.ada_syntax.specs.declared.declarations.IndexForm.TheVariants as index_form
@@ -38,37 +35,36 @@ use Rattle.ada_syntax.specs.declared.declarations.Param.{Param}
 use Rattle.ada_syntax.specs.declared.declarations.Sub.{Sub}
 use Rattle.ada_syntax.specs.declared.declarations.SubInd.{SubInd}
 use Rattle.ada_syntax.specs.declared.declarations.TypeDef.{TypeDef}
-use Rattle.ada_syntax.specs.declared.declarations.TypeForm.TheVariants as type_form
 use Rattle.ada_syntax.specs.declared.units.ContextItem.{ContextItem}
 use Rattle.ada_syntax.specs.declared.units.SourceUnit.{SourceUnit}
 use Rattle.ada_syntax.specs.declared.units.Unit.{Unit}
-use Rattle.ada_tree.specs.declared.operations.Operation.{Operation}
-use Rattle.ada_tree.specs.declared.part.ArgTail.{ArgTail}
-use Rattle.ada_tree.specs.declared.part.ArgTail.TheVariants as arg_tail
-use Rattle.ada_tree.specs.declared.part.Edged.{Edged}
-use Rattle.ada_tree.specs.declared.part.Ended.{Ended}
-use Rattle.ada_tree.specs.declared.part.LogicTail.{LogicTail}
-use Rattle.ada_tree.specs.declared.part.Part.{Part}
-use Rattle.ada_tree.specs.declared.part.Part.TheVariants as part
-use Rattle.ada_tree.specs.declared.part.RelationTail.{RelationTail}
-use Rattle.ada_tree.specs.declared.part.RelationTail.TheVariants as relation_tail
-use Rattle.ada_tree.specs.declared.part.UnitPart.{UnitPart}
-use Rattle.ada_tree.specs.declared.part.UnitPart.TheVariants as unit_part
-use Rattle.ada_tree.specs.declared.part.DeclarationPart.{DeclarationPart}
-use Rattle.ada_tree.specs.declared.part.DeclarationPart.TheVariants as declaration_part
-use Rattle.ada_tree.specs.declared.part.TypePart.{TypePart}
-use Rattle.ada_tree.specs.declared.part.TypePart.TheVariants as type_part
-use Rattle.ada_tree.specs.declared.part.SubprogramPart.{SubprogramPart}
-use Rattle.ada_tree.specs.declared.part.SubprogramPart.TheVariants as subprogram_part
-use Rattle.ada_tree.specs.declared.part.StatementPart.{StatementPart}
-use Rattle.ada_tree.specs.declared.part.StatementPart.TheVariants as statement_part
-use Rattle.ada_tree.specs.declared.part.ChoicePart.{ChoicePart}
-use Rattle.ada_tree.specs.declared.part.ChoicePart.TheVariants as choice_part
-use Rattle.ada_tree.specs.declared.part.ItemPart.{ItemPart}
-use Rattle.ada_tree.specs.declared.part.ItemPart.TheVariants as item_part
-use Rattle.ada_tree.specs.declared.part.ExpressionPart.{ExpressionPart}
-use Rattle.ada_tree.specs.declared.part.ExpressionPart.TheVariants as expression_part
-use Rattle.ada_tree.specs.Missing.{decl_at, missing_expr, missing_name, missing_source_unit, missing_sub, missing_sub_ind, missing_unit, nothing, nowhere, stmt_at}
+use Rattle.tree_parts.specs.declared.part.Operation.{Operation}
+use Rattle.tree_parts.specs.declared.relations.ArgTail.{ArgTail}
+use Rattle.tree_parts.specs.declared.relations.ArgTail.TheVariants as arg_tail
+use Rattle.tree_parts.specs.declared.part.Edged.{Edged}
+use Rattle.tree_parts.specs.declared.part.Ended.{Ended}
+use Rattle.tree_parts.specs.declared.part.LogicTail.{LogicTail}
+use Rattle.tree_parts.specs.declared.parts.Part.{Part}
+use Rattle.tree_parts.specs.declared.parts.Part.TheVariants as part
+use Rattle.tree_parts.specs.declared.relations.RelationTail.{RelationTail}
+use Rattle.tree_parts.specs.declared.relations.RelationTail.TheVariants as relation_tail
+use Rattle.tree_parts.specs.declared.unit_parts.UnitPart.{UnitPart}
+use Rattle.tree_parts.specs.declared.unit_parts.UnitPart.TheVariants as unit_part
+use Rattle.tree_parts.specs.declared.declaration_parts.DeclarationPart.{DeclarationPart}
+use Rattle.tree_parts.specs.declared.declaration_parts.DeclarationPart.TheVariants as declaration_part
+use Rattle.tree_parts.specs.declared.type_parts.TypePart.{TypePart}
+use Rattle.tree_parts.specs.declared.type_parts.TypePart.TheVariants as type_part
+use Rattle.tree_parts.specs.declared.subprogram_parts.SubprogramPart.{SubprogramPart}
+use Rattle.tree_parts.specs.declared.subprogram_parts.SubprogramPart.TheVariants as subprogram_part
+use Rattle.tree_parts.specs.declared.statement_parts.StatementPart.{StatementPart}
+use Rattle.tree_parts.specs.declared.statement_parts.StatementPart.TheVariants as statement_part
+use Rattle.tree_parts.specs.declared.statement_parts.ChoicePart.{ChoicePart}
+use Rattle.tree_parts.specs.declared.statement_parts.ChoicePart.TheVariants as choice_part
+use Rattle.tree_parts.specs.declared.item_parts.ItemPart.{ItemPart}
+use Rattle.tree_parts.specs.declared.item_parts.ItemPart.TheVariants as item_part
+use Rattle.tree_parts.specs.declared.expression_parts.ExpressionPart.{ExpressionPart}
+use Rattle.tree_parts.specs.declared.expression_parts.ExpressionPart.TheVariants as expression_part
+use Rattle.tree_parts.specs.Missing.{missing_decl, missing_expr, missing_item, missing_name, missing_source_unit, missing_stmt, missing_sub, missing_sub_ind, missing_type_def, missing_unit, nothing, nowhere}
 
 infixl 90 ◌!◌
 -- the first part of a stack
@@ -115,7 +111,7 @@ subprogram_part_of _ = subprogram_part.Mode mode.Unstated
 
 abbrev pub statement_part_of : Part → StatementPart
 statement_part_of (part.Statement p) = p
-statement_part_of _ = statement_part.Stmt (stmt_at nowhere action.Null)
+statement_part_of _ = statement_part.Stmts []
 
 abbrev pub choice_part_of : Part → ChoicePart
 choice_part_of (part.Choice p) = p
@@ -180,14 +176,14 @@ decls_of p = decls_from (declaration_part_of p)
 
 abbrev pub decl_from : DeclarationPart → Decl
 decl_from (declaration_part.Decl x) = x
-decl_from _ = decl_at nowhere (decl_form.Use [])
+decl_from _ = missing_decl
 
 abbrev pub decl_of : Part → Decl
 decl_of p = decl_from (declaration_part_of p)
 
 abbrev pub type_def_from : TypePart → TypeDef
 type_def_from (type_part.TypeDef x) = x
-type_def_from _ = record { span = nowhere; form = type_form.Enumeration [] }
+type_def_from _ = missing_type_def
 
 abbrev pub type_def_of : Part → TypeDef
 type_def_of p = type_def_from (type_part_of p)
@@ -341,7 +337,7 @@ stmts_of p = stmts_from (statement_part_of p)
 
 abbrev pub stmt_from : StatementPart → Stmt
 stmt_from (statement_part.Stmt x) = x
-stmt_from _ = stmt_at nowhere action.Null
+stmt_from _ = missing_stmt
 
 abbrev pub stmt_of : Part → Stmt
 stmt_of p = stmt_from (statement_part_of p)
@@ -404,7 +400,7 @@ range_of p = range_from (item_part_of p)
 
 abbrev pub item_from : ItemPart → Item Expr
 item_from (item_part.Item x) = x
-item_from _ = record { span = nowhere; form = item_form.Plain missing_expr }
+item_from _ = missing_item
 
 abbrev pub item_of : Part → Item Expr
 item_of p = item_from (item_part_of p)

@@ -1,7 +1,7 @@
 //! What tokens say.
 
 ghost use Rattle.std.specs.Prelude.{◌≡◌};
-ghost use Rattle.ada_tree.specs.Operators.{logic_operator, marked_operator, number_of, operator_of, quantifier_of, reserved_operator, short_operator_of, unary_operator_of};
+ghost use Rattle.tree_parts.specs.Operators.{logic_operator, marked_operator, number_of, operator_of, quantifier_of, reserved_operator, short_operator_of, unary_operator_of};
 
 use ada_syntax::{BinaryOperator, Quantifier, UnaryOperator};
 use ada_text::{Delimiter, Reserved, TokenKind};

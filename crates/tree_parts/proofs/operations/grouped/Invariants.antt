@@ -1,6 +1,6 @@
 use Rattle.std.proofs.Common.{◌≡◌, length}
-use Rattle.ada_tree.specs.Operations.{grouped}
-use Rattle.ada_tree.proofs.operations.grouped.Given as goal
+use Rattle.tree_parts.specs.Operations.{grouped}
+use Rattle.tree_parts.proofs.operations.grouped.Given as goal
 
 abbrev pub invariant-loop-operation : goal.invariant-loop-operation
 invariant-loop-operation l = grouped l.all l.left ≡ grouped l.fn.first l.fn.more

@@ -1,7 +1,7 @@
 //! Where what may be left out ends.
 
 ghost use Rattle.std.specs.Prelude.{◌≡◌};
-ghost use Rattle.ada_tree.specs.Ends.{bounds_end, expr_end, item_end};
+ghost use Rattle.tree_parts.specs.Ends.{bounds_end, expr_end, item_end};
 
 use ada_syntax::{Bounds, Expr, Item};
 use ada_text::Span;

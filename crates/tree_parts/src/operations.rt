@@ -1,23 +1,16 @@
 //! Operators with their right operands.
 
 ghost use Rattle.std.specs.Prelude.{◌≡◌, IfOk};
-ghost use Rattle.ada_tree.specs.Operations.{binary, grouped, joined, unary};
+ghost use Rattle.tree_parts.specs.Operations.{binary, grouped, joined, unary};
 
+use crate::Starved;
 use crate::chain::Chain;
+use crate::nodes::expr_at;
 use crate::operators::unary_operator_of;
-use ada_syntax::{BinaryOperator, Expr, ExprNode};
+use crate::part::Operation;
+use ada_syntax::{Expr, ExprNode};
 use ada_text::{Span, Token};
-use grammar_table::Starved;
-use sqlite_items::Boxed;
 use std::alloc::Global;
-
-/// An operator with its place and its right operand.
-#[derive(Drop)]
-pub struct Operation {
-    pub place: Span,
-    pub operator: BinaryOperator,
-    pub operand: Expr,
-}
 
 /// From the first byte of one span to the end of another.
 pub fn joined(first: Span, last: Span) -> Span
@@ -34,11 +27,11 @@ pub fn unary(alloc: Global, operator: Token, operand: Expr) -> Result<Expr, Star
     ensures { IfOk result (λ e. e ≡ unary operator operand) }
 {
     let span = joined(operator.span, operand.span);
-    let operand = Boxed::new(alloc, operand)?;
-    Ok(Expr {
+    expr_at(
+        alloc,
         span,
-        node: ExprNode::Unary(operator.span, unary_operator_of(operator.kind), operand),
-    })
+        ExprNode::Unary(operator.span, unary_operator_of(operator.kind), operand),
+    )
 }
 
 /// An operator between two operands.
@@ -51,18 +44,11 @@ pub fn binary(alloc: Global, left: Expr, operation: Operation) -> Result<Expr, S
         operand,
     } = operation;
     let span = joined(left.span, operand.span);
-    let left = match Boxed::new(alloc, left) {
-        Ok(left) => left,
-        Err(error) => {
-            drop(operand);
-            return Err(error);
-        }
-    };
-    let operand = Boxed::new(alloc, operand)?;
-    Ok(Expr {
+    expr_at(
+        alloc,
         span,
-        node: ExprNode::Binary(place, operator, left, operand),
-    })
+        ExprNode::Binary(place, operator, left, operand),
+    )
 }
 
 /// Operators one after another, grouped to the left.

@@ -4,7 +4,7 @@ use Rattle.ada_text.specs.declared.token.Span.{Span}
 use Rattle.ada_syntax.specs.declared.declarations.Bounds.{Bounds}
 use Rattle.ada_syntax.specs.declared.expressions.Expr.{Expr}
 use Rattle.ada_syntax.specs.declared.expressions.Item.{Item}
-use Rattle.ada_tree.specs.Operations.{span_of}
+use Rattle.tree_parts.specs.Operations.{span_of}
 
 abbrev pub bounds_end : Option Bounds → Span → Span
 bounds_end None before = before

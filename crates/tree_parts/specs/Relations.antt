@@ -12,13 +12,13 @@ use Rattle.ada_syntax.specs.declared.expressions.Range.{Range}
 use Rattle.ada_syntax.specs.declared.statements.Action.{Action}
 use Rattle.ada_syntax.specs.declared.statements.Action.TheVariants as action
 use Rattle.ada_syntax.specs.declared.statements.Stmt.{Stmt}
-use Rattle.ada_tree.specs.declared.part.ArgTail.{ArgTail}
-use Rattle.ada_tree.specs.declared.part.ArgTail.TheVariants as arg_tail
-use Rattle.ada_tree.specs.declared.part.RelationTail.{RelationTail}
-use Rattle.ada_tree.specs.declared.part.RelationTail.TheVariants as relation_tail
-use Rattle.ada_tree.specs.Ends.{expr_end, item_end}
-use Rattle.ada_tree.specs.Missing.{expr_at}
-use Rattle.ada_tree.specs.Operations.{binary, grouped, joined, span_of}
+use Rattle.tree_parts.specs.declared.relations.ArgTail.{ArgTail}
+use Rattle.tree_parts.specs.declared.relations.ArgTail.TheVariants as arg_tail
+use Rattle.tree_parts.specs.declared.relations.RelationTail.{RelationTail}
+use Rattle.tree_parts.specs.declared.relations.RelationTail.TheVariants as relation_tail
+use Rattle.tree_parts.specs.Ends.{expr_end, item_end}
+use Rattle.tree_parts.specs.Missing.{expr_at}
+use Rattle.tree_parts.specs.Operations.{binary, grouped, joined, span_of}
 
 abbrev pub range_end : Range Expr → Span
 range_end r = expr_end r.high (span_of r.low)

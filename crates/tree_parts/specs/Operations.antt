@@ -5,9 +5,9 @@ use Rattle.ada_text.specs.declared.token.Token.{Token}
 use Rattle.ada_syntax.specs.declared.expressions.BinaryOperator.{BinaryOperator}
 use Rattle.ada_syntax.specs.declared.expressions.ExprNode.TheVariants as node
 use Rattle.ada_syntax.specs.declared.expressions.Expr.{Expr, out-Expr}
-use Rattle.ada_tree.specs.declared.operations.Operation.{Operation}
-use Rattle.ada_tree.specs.Missing.{expr_at}
-use Rattle.ada_tree.specs.Operators.{unary_operator_of}
+use Rattle.tree_parts.specs.declared.part.Operation.{Operation}
+use Rattle.tree_parts.specs.Missing.{expr_at}
+use Rattle.tree_parts.specs.Operators.{unary_operator_of}
 
 -- from the first byte of one span to the end of another
 abbrev pub joined : Span → Span → Span
