@@ -31,8 +31,10 @@ use Rattle.ada_tree.specs.declared.rules.AspectRule.{AspectRule}
 use Rattle.ada_tree.specs.declared.rules.AspectRule.TheVariants as aspect'
 use Rattle.ada_tree.specs.declared.rules.StatementRule.{StatementRule}
 use Rattle.ada_tree.specs.declared.rules.StatementRule.TheVariants as statement'
-use Rattle.ada_tree.specs.declared.rules.BranchRule.{BranchRule}
-use Rattle.ada_tree.specs.declared.rules.BranchRule.TheVariants as branch'
+use Rattle.ada_tree.specs.declared.rules.IfRule.{IfRule}
+use Rattle.ada_tree.specs.declared.rules.IfRule.TheVariants as if'
+use Rattle.ada_tree.specs.declared.rules.CaseRule.{CaseRule}
+use Rattle.ada_tree.specs.declared.rules.CaseRule.TheVariants as case'
 use Rattle.ada_tree.specs.declared.rules.ChoiceRule.{ChoiceRule}
 use Rattle.ada_tree.specs.declared.rules.ChoiceRule.TheVariants as choice'
 use Rattle.ada_tree.specs.declared.rules.LoopRule.{LoopRule}
@@ -61,7 +63,7 @@ use Rattle.ada_tree.specs.Declarations.{declaration_rule, object_rule, other_dec
 use Rattle.ada_tree.specs.Expressions.{logic_rule, operation_rule, relation_rule}
 use Rattle.ada_tree.specs.Items.{arg_rule, args_rule, item_rule, optional_rule}
 use Rattle.ada_tree.specs.Names.{attribute_rule, name_rule, primary_rule}
-use Rattle.ada_tree.specs.Statements.{branch_rule, choice_rule, loop_rule, statement_rule}
+use Rattle.ada_tree.specs.Statements.{case_rule, choice_rule, if_rule, loop_rule, statement_rule}
 use Rattle.ada_tree.specs.Subprograms.{aspect_rule, mode_rule, param_rule, subprogram_rule}
 use Rattle.ada_tree.specs.Types.{index_rule, subtype_rule, type_form_rule}
 use Rattle.ada_tree.specs.Units.{context_rule, names_rule, unit_rule}
@@ -256,23 +258,27 @@ statement_made statement'.Exit s = refl
 statement_made statement'.Return s = refl
 statement_made statement'.StmtPragma s = refl
 
-abbrev pub branch_arity : BranchRule → ℕ
-branch_arity branch'.If = 9
-branch_arity branch'.Branches = 5
-branch_arity branch'.NoBranches = 0
-branch_arity branch'.Case = 8
-branch_arity branch'.Alternative = 5
-branch_arity branch'.Alternatives = 2
-branch_arity branch'.NoAlternatives = 0
+abbrev pub if_arity : IfRule → ℕ
+if_arity if'.If = 9
+if_arity if'.Branches = 5
+if_arity if'.NoBranches = 0
 
-branch_made : (r : BranchRule) (s : List Part) → branch_rule r s ≡ first (branch_rule r s) ∷ after (branch_arity r) s
-branch_made branch'.If s = refl
-branch_made branch'.Branches s = refl
-branch_made branch'.NoBranches s = refl
-branch_made branch'.Case s = refl
-branch_made branch'.Alternative s = refl
-branch_made branch'.Alternatives s = refl
-branch_made branch'.NoAlternatives s = refl
+if_made : (r : IfRule) (s : List Part) → if_rule r s ≡ first (if_rule r s) ∷ after (if_arity r) s
+if_made if'.If s = refl
+if_made if'.Branches s = refl
+if_made if'.NoBranches s = refl
+
+abbrev pub case_arity : CaseRule → ℕ
+case_arity case'.Case = 8
+case_arity case'.Alternative = 5
+case_arity case'.Alternatives = 2
+case_arity case'.NoAlternatives = 0
+
+case_made : (r : CaseRule) (s : List Part) → case_rule r s ≡ first (case_rule r s) ∷ after (case_arity r) s
+case_made case'.Case s = refl
+case_made case'.Alternative s = refl
+case_made case'.Alternatives s = refl
+case_made case'.NoAlternatives s = refl
 
 abbrev pub choice_arity : ChoiceRule → ℕ
 choice_arity choice'.ChoiceOthers = 1
@@ -453,7 +459,8 @@ arity (rule.Param r) = param_arity r
 arity (rule.Mode r) = mode_arity r
 arity (rule.Aspect r) = aspect_arity r
 arity (rule.Statement r) = statement_arity r
-arity (rule.Branch r) = branch_arity r
+arity (rule.If r) = if_arity r
+arity (rule.Case r) = case_arity r
 arity (rule.Choice r) = choice_arity r
 arity (rule.Loop r) = loop_arity r
 arity (rule.Optional r) = optional_arity r
@@ -488,7 +495,8 @@ made_one (rule.Param r) s h = param_made r s
 made_one (rule.Mode r) s h = mode_made r s
 made_one (rule.Aspect r) s h = aspect_made r s
 made_one (rule.Statement r) s h = statement_made r s
-made_one (rule.Branch r) s h = branch_made r s
+made_one (rule.If r) s h = if_made r s
+made_one (rule.Case r) s h = case_made r s
 made_one (rule.Choice r) s h = choice_made r s
 made_one (rule.Loop r) s h = loop_made r s
 made_one (rule.Optional r) s h = optional_made r s

@@ -7,7 +7,8 @@ use Rattle.grammar_table.specs.Parses.{right_of}
 use Rattle.grammar_table.specs.Productions.{productions}
 use Rattle.grammar_table.specs.declared.symbols.Nonterminal.TheVariants as non
 use Rattle.grammar_table.specs.declared.symbols.Terminal.TheVariants as terminal
-use Rattle.ada_tree.specs.declared.rules.BranchRule.TheVariants as BranchRule'
+use Rattle.ada_tree.specs.declared.rules.CaseRule.TheVariants as CaseRule'
+use Rattle.ada_tree.specs.declared.rules.IfRule.TheVariants as IfRule'
 use Rattle.ada_tree.specs.declared.rules.ChoiceRule.TheVariants as ChoiceRule'
 use Rattle.ada_tree.specs.declared.rules.LoopRule.TheVariants as LoopRule'
 use Rattle.ada_tree.specs.declared.rules.OptionalRule.TheVariants as OptionalRule'
@@ -44,12 +45,12 @@ unfolding productions
 law_75 ps f = (stmt_words _ _ ∙ named_words _ _ ∙ simp (append_assoc, append-nil), tt)
 
 -- Stmt = if Expr then Stmts Elsifs Else end if ;
-pub law_76 : Law non.Stmt (right_of productions 76) (rule.Branch BranchRule'.If)
+pub law_76 : Law non.Stmt (right_of productions 76) (rule.If IfRule'.If)
 unfolding productions
 law_76 ps f = (stmt_words _ _ ∙ simp (append_assoc, append-nil), tt)
 
 -- Stmt = case Expr is When Whens end case ;
-pub law_77 : Law non.Stmt (right_of productions 77) (rule.Branch BranchRule'.Case)
+pub law_77 : Law non.Stmt (right_of productions 77) (rule.Case CaseRule'.Case)
 unfolding productions
 law_77 ps f = (stmt_words _ _ ∙ case8 (token_text ((terminal.Word res.Case)) (token_of (ps ! 0))) (text non.Expr (ps ! 1)) (token_text ((terminal.Word res.Is)) (token_of (ps ! 2))) (text non.When (ps ! 3)) (text non.Whens (ps ! 4)) (token_text ((terminal.Word res.End)) (token_of (ps ! 5))) (token_text ((terminal.Word res.Case)) (token_of (ps ! 6))) (token_text ((terminal.Mark del.Semicolon)) (token_of (ps ! 7))), tt)
 
@@ -84,12 +85,12 @@ unfolding productions
 law_83 ps f = (refl, tt)
 
 -- Elsifs = elsif Expr then Stmts Elsifs
-pub law_84 : Law non.Elsifs (right_of productions 84) (rule.Branch BranchRule'.Branches)
+pub law_84 : Law non.Elsifs (right_of productions 84) (rule.If IfRule'.Branches)
 unfolding productions
 law_84 ps f = (branch5 (token_text ((terminal.Word res.Elsif)) (token_of (ps ! 0))) (text non.Expr (ps ! 1)) (token_text ((terminal.Word res.Then)) (token_of (ps ! 2))) (text non.Stmts (ps ! 3)) (text non.Elsifs (ps ! 4)), tt)
 
 -- Elsifs =
-pub law_85 : Law non.Elsifs (right_of productions 85) (rule.Branch BranchRule'.NoBranches)
+pub law_85 : Law non.Elsifs (right_of productions 85) (rule.If IfRule'.NoBranches)
 unfolding productions
 law_85 ps f = (refl, tt)
 
@@ -104,17 +105,17 @@ unfolding productions
 law_87 ps f = (refl, tt)
 
 -- When = when Choice Choices => Stmts
-pub law_88 : Law non.When (right_of productions 88) (rule.Branch BranchRule'.Alternative)
+pub law_88 : Law non.When (right_of productions 88) (rule.Case CaseRule'.Alternative)
 unfolding productions
 law_88 ps f = (simp (append_assoc, append-nil), tt)
 
 -- Whens = When Whens
-pub law_89 : Law non.Whens (right_of productions 89) (rule.Branch BranchRule'.Alternatives)
+pub law_89 : Law non.Whens (right_of productions 89) (rule.Case CaseRule'.Alternatives)
 unfolding productions
 law_89 ps f = (flat2 (text non.When (ps ! 0)) (text non.Whens (ps ! 1)), tt)
 
 -- Whens =
-pub law_90 : Law non.Whens (right_of productions 90) (rule.Branch BranchRule'.NoAlternatives)
+pub law_90 : Law non.Whens (right_of productions 90) (rule.Case CaseRule'.NoAlternatives)
 unfolding productions
 law_90 ps f = (refl, tt)
 

@@ -8,7 +8,7 @@ use Rattle.ada_tree.specs.Declarations.{declaration_rule, object_rule, other_dec
 use Rattle.ada_tree.specs.Expressions.{logic_rule, operation_rule, relation_rule}
 use Rattle.ada_tree.specs.Items.{arg_rule, args_rule, item_rule, optional_rule}
 use Rattle.ada_tree.specs.Names.{attribute_rule, name_rule, primary_rule}
-use Rattle.ada_tree.specs.Statements.{branch_rule, choice_rule, loop_rule, statement_rule}
+use Rattle.ada_tree.specs.Statements.{case_rule, choice_rule, if_rule, loop_rule, statement_rule}
 use Rattle.ada_tree.specs.Subprograms.{aspect_rule, mode_rule, param_rule, subprogram_rule}
 use Rattle.ada_tree.specs.Types.{index_rule, subtype_rule, type_form_rule}
 use Rattle.ada_tree.specs.Units.{context_rule, names_rule, unit_rule}
@@ -32,7 +32,8 @@ made (rule.Param r) s = param_rule r s
 made (rule.Mode r) s = mode_rule r s
 made (rule.Aspect r) s = aspect_rule r s
 made (rule.Statement r) s = statement_rule r s
-made (rule.Branch r) s = branch_rule r s
+made (rule.If r) s = if_rule r s
+made (rule.Case r) s = case_rule r s
 made (rule.Choice r) s = choice_rule r s
 made (rule.Loop r) s = loop_rule r s
 made (rule.Optional r) s = optional_rule r s

@@ -9,8 +9,10 @@ use Rattle.tree_parts.specs.declared.parts.Part.{Part}
 use Rattle.tree_parts.specs.declared.parts.Part.TheVariants as part
 use Rattle.ada_tree.specs.declared.rules.StatementRule.{StatementRule}
 use Rattle.ada_tree.specs.declared.rules.StatementRule.TheVariants as statement'
-use Rattle.ada_tree.specs.declared.rules.BranchRule.{BranchRule}
-use Rattle.ada_tree.specs.declared.rules.BranchRule.TheVariants as branch'
+use Rattle.ada_tree.specs.declared.rules.IfRule.{IfRule}
+use Rattle.ada_tree.specs.declared.rules.IfRule.TheVariants as if'
+use Rattle.ada_tree.specs.declared.rules.CaseRule.{CaseRule}
+use Rattle.ada_tree.specs.declared.rules.CaseRule.TheVariants as case'
 use Rattle.ada_tree.specs.declared.rules.ChoiceRule.{ChoiceRule}
 use Rattle.ada_tree.specs.declared.rules.ChoiceRule.TheVariants as choice'
 use Rattle.ada_tree.specs.declared.rules.LoopRule.{LoopRule}
@@ -38,21 +40,23 @@ statement_rule statement'.Return s = part.Statement (statement_part.Stmt (stmt_a
 -- Stmt = Pragma
 statement_rule statement'.StmtPragma s = part.Statement (statement_part.Stmt (stmt_at (pragma_of (s ! 0)).span (action.Pragma (pragma_of (s ! 0))))) ∷ after 1 s
 
-abbrev pub branch_rule : BranchRule → List Part → List Part
+abbrev pub if_rule : IfRule → List Part → List Part
 -- Stmt = if Expr then Stmts Elsifs Else end if ;
-branch_rule branch'.If s = part.Statement (statement_part.Stmt (stmt_at (joined (place_of (s ! 0)) (place_of (s ! 8))) (action.If (record { condition = (expr_of (s ! 1)); body = (stmts_of (s ! 3)) } ∷ (branches_of (s ! 4))) (stmts_of (s ! 5))))) ∷ after 9 s
+if_rule if'.If s = part.Statement (statement_part.Stmt (stmt_at (joined (place_of (s ! 0)) (place_of (s ! 8))) (action.If (record { condition = (expr_of (s ! 1)); body = (stmts_of (s ! 3)) } ∷ (branches_of (s ! 4))) (stmts_of (s ! 5))))) ∷ after 9 s
 -- Elsifs = elsif Expr then Stmts Elsifs
-branch_rule branch'.Branches s = part.Statement (statement_part.Branches (record { condition = (expr_of (s ! 1)); body = (stmts_of (s ! 3)) } ∷ (branches_of (s ! 4)))) ∷ after 5 s
+if_rule if'.Branches s = part.Statement (statement_part.Branches (record { condition = (expr_of (s ! 1)); body = (stmts_of (s ! 3)) } ∷ (branches_of (s ! 4)))) ∷ after 5 s
 -- Elsifs =
-branch_rule branch'.NoBranches s = part.Statement (statement_part.Branches []) ∷ s
+if_rule if'.NoBranches s = part.Statement (statement_part.Branches []) ∷ s
+
+abbrev pub case_rule : CaseRule → List Part → List Part
 -- Stmt = case Expr is When Whens end case ;
-branch_rule branch'.Case s = part.Statement (statement_part.Stmt (stmt_at (joined (place_of (s ! 0)) (place_of (s ! 7))) (action.Case (expr_of (s ! 1)) ((alternative_of (s ! 3)) ∷ (alternatives_of (s ! 4)))))) ∷ after 8 s
+case_rule case'.Case s = part.Statement (statement_part.Stmt (stmt_at (joined (place_of (s ! 0)) (place_of (s ! 7))) (action.Case (expr_of (s ! 1)) ((alternative_of (s ! 3)) ∷ (alternatives_of (s ! 4)))))) ∷ after 8 s
 -- When = when Choice Choices => Stmts
-branch_rule branch'.Alternative s = part.Statement (statement_part.Alternative (record { choices = (choice_of (s ! 1)) ∷ (choices_of (s ! 2)); body = (stmts_of (s ! 4)) })) ∷ after 5 s
+case_rule case'.Alternative s = part.Statement (statement_part.Alternative (record { choices = (choice_of (s ! 1)) ∷ (choices_of (s ! 2)); body = (stmts_of (s ! 4)) })) ∷ after 5 s
 -- Whens = When Whens
-branch_rule branch'.Alternatives s = part.Statement (statement_part.Alternatives ((alternative_of (s ! 0)) ∷ (alternatives_of (s ! 1)))) ∷ after 2 s
+case_rule case'.Alternatives s = part.Statement (statement_part.Alternatives ((alternative_of (s ! 0)) ∷ (alternatives_of (s ! 1)))) ∷ after 2 s
 -- Whens =
-branch_rule branch'.NoAlternatives s = part.Statement (statement_part.Alternatives []) ∷ s
+case_rule case'.NoAlternatives s = part.Statement (statement_part.Alternatives []) ∷ s
 
 abbrev pub choice_rule : ChoiceRule → List Part → List Part
 -- Choice = others

@@ -9,7 +9,7 @@ use crate::item_rules::{apply_arg, apply_args, apply_item, apply_optional};
 use crate::name_rules::{apply_attribute, apply_name, apply_primary};
 use crate::rule_table::RULES;
 use crate::rules::Rule;
-use crate::statement_rules::{apply_branch, apply_choice, apply_loop, apply_statement};
+use crate::statement_rules::{apply_case, apply_choice, apply_if, apply_loop, apply_statement};
 use crate::subprogram_rules::{apply_aspect, apply_mode, apply_param, apply_subprogram};
 use crate::type_rules::{apply_index, apply_subtype, apply_type_form};
 use crate::unit_rules::{apply_context, apply_names, apply_unit};
@@ -52,7 +52,8 @@ pub fn apply(alloc: Global, rule: Rule, parts: &mut Parts) -> Result<(), Starved
         Rule::Mode(rule) => apply_mode(alloc, rule, parts),
         Rule::Aspect(rule) => apply_aspect(alloc, rule, parts),
         Rule::Statement(rule) => apply_statement(alloc, rule, parts),
-        Rule::Branch(rule) => apply_branch(alloc, rule, parts),
+        Rule::If(rule) => apply_if(alloc, rule, parts),
+        Rule::Case(rule) => apply_case(alloc, rule, parts),
         Rule::Choice(rule) => apply_choice(alloc, rule, parts),
         Rule::Loop(rule) => apply_loop(alloc, rule, parts),
         Rule::Optional(rule) => apply_optional(alloc, rule, parts),

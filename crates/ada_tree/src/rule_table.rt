@@ -1,10 +1,11 @@
 //! The rule of each production.
 
 use crate::rules::{
-    ArgRule, ArgsRule, AspectRule, AttributeRule, BranchRule, ChoiceRule, ContextRule,
-    DeclarationRule, IndexRule, ItemRule, LogicRule, LoopRule, ModeRule, NameRule, NamesRule,
-    ObjectRule, OperationRule, OptionalRule, OtherDeclarationRule, ParamRule, PrimaryRule,
-    RelationRule, Rule, StatementRule, SubprogramRule, SubtypeRule, TypeFormRule, UnitRule,
+    ArgRule, ArgsRule, AspectRule, AttributeRule, CaseRule, ChoiceRule, ContextRule,
+    DeclarationRule, IfRule, IndexRule, ItemRule, LogicRule, LoopRule, ModeRule, NameRule,
+    NamesRule, ObjectRule, OperationRule, OptionalRule, OtherDeclarationRule, ParamRule,
+    PrimaryRule, RelationRule, Rule, StatementRule, SubprogramRule, SubtypeRule, TypeFormRule,
+    UnitRule,
 };
 
 /// The rule of each production, in their order.
@@ -162,9 +163,9 @@ pub const RULES: [Rule; 186] = [
     // Stmt = Name Act ;
     Rule::Statement(StatementRule::Name),
     // Stmt = if Expr then Stmts Elsifs Else end if ;
-    Rule::Branch(BranchRule::If),
+    Rule::If(IfRule::If),
     // Stmt = case Expr is When Whens end case ;
-    Rule::Branch(BranchRule::Case),
+    Rule::Case(CaseRule::Case),
     // Stmt = Head loop Stmts end loop ;
     Rule::Loop(LoopRule::Loop),
     // Stmt = exit ExWhen ;
@@ -178,19 +179,19 @@ pub const RULES: [Rule; 186] = [
     // Act =
     Rule::Optional(OptionalRule::NoExpr),
     // Elsifs = elsif Expr then Stmts Elsifs
-    Rule::Branch(BranchRule::Branches),
+    Rule::If(IfRule::Branches),
     // Elsifs =
-    Rule::Branch(BranchRule::NoBranches),
+    Rule::If(IfRule::NoBranches),
     // Else = else Stmts
     Rule::AfterWord,
     // Else =
     Rule::Statement(StatementRule::NoStmts),
     // When = when Choice Choices => Stmts
-    Rule::Branch(BranchRule::Alternative),
+    Rule::Case(CaseRule::Alternative),
     // Whens = When Whens
-    Rule::Branch(BranchRule::Alternatives),
+    Rule::Case(CaseRule::Alternatives),
     // Whens =
-    Rule::Branch(BranchRule::NoAlternatives),
+    Rule::Case(CaseRule::NoAlternatives),
     // Choice = others
     Rule::Choice(ChoiceRule::ChoiceOthers),
     // Choice = Range

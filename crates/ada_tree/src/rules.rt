@@ -202,15 +202,20 @@ pub enum StatementRule {
     StmtPragma,
 }
 
-/// What becomes of `if` and `case` (Ada RM 5.3, 5.4).
+/// What becomes of `if` (Ada RM 5.3).
 #[derive(Clone, Copy)]
-pub enum BranchRule {
+pub enum IfRule {
     /// `Stmt = if Expr then Stmts Elsifs Else end if ;`
     If,
     /// `Elsifs = elsif Expr then Stmts Elsifs`
     Branches,
     /// `Elsifs =`
     NoBranches,
+}
+
+/// What becomes of `case` and its alternatives (Ada RM 5.4).
+#[derive(Clone, Copy)]
+pub enum CaseRule {
     /// `Stmt = case Expr is When Whens end case ;`
     Case,
     /// `When = when Choice Choices => Stmts`
@@ -416,7 +421,8 @@ pub enum Rule {
     Mode(ModeRule),
     Aspect(AspectRule),
     Statement(StatementRule),
-    Branch(BranchRule),
+    If(IfRule),
+    Case(CaseRule),
     Choice(ChoiceRule),
     Loop(LoopRule),
     Optional(OptionalRule),

@@ -1,9 +1,9 @@
 //! What becomes of statements (Ada RM 5, 6.4, 6.5).
 
 ghost use Rattle.std.specs.Prelude.{◌≡◌, OnOk};
-ghost use Rattle.ada_tree.specs.Statements.{branch_rule, choice_rule, loop_rule, statement_rule};
+ghost use Rattle.ada_tree.specs.Statements.{case_rule, choice_rule, if_rule, loop_rule, statement_rule};
 
-use crate::rules::{BranchRule, ChoiceRule, LoopRule, StatementRule};
+use crate::rules::{CaseRule, ChoiceRule, IfRule, LoopRule, StatementRule};
 use ada_syntax::{Action, Alternative, Branch, Choice, LoopHead};
 use std::alloc::Global;
 use tree_parts::{Chain, ChoicePart, Edged, Parts, Starved, StatementPart, joined, named_action};
@@ -59,12 +59,12 @@ pub fn apply_statement(alloc: Global, rule: StatementRule, parts: &mut Parts) ->
 }
 
 /// Takes the parts of a production from the front, and puts there what the rule makes of them.
-pub fn apply_branch(alloc: Global, rule: BranchRule, parts: &mut Parts) -> Result<(), Starved>
-    ensures { OnOk result (parts.new ≡ branch_rule rule parts.old) }
+pub fn apply_if(alloc: Global, rule: IfRule, parts: &mut Parts) -> Result<(), Starved>
+    ensures { OnOk result (parts.new ≡ if_rule rule parts.old) }
 {
     match rule {
         // Stmt = if Expr then Stmts Elsifs Else end if ;
-        BranchRule::If => {
+        IfRule::If => {
             let start = parts.place();
             let condition = parts.expression().expr(alloc)?;
             parts.skip();
@@ -85,7 +85,7 @@ pub fn apply_branch(alloc: Global, rule: BranchRule, parts: &mut Parts) -> Resul
             )
         }
         // Elsifs = elsif Expr then Stmts Elsifs
-        BranchRule::Branches => {
+        IfRule::Branches => {
             parts.skip();
             let condition = parts.expression().expr(alloc)?;
             parts.skip();
@@ -97,11 +97,19 @@ pub fn apply_branch(alloc: Global, rule: BranchRule, parts: &mut Parts) -> Resul
             parts.put_statement(alloc, StatementPart::Branches(branches))
         }
         // Elsifs =
-        BranchRule::NoBranches => {
+        IfRule::NoBranches => {
             parts.put_statement(alloc, StatementPart::Branches(Chain::new(alloc)))
         }
+    }
+}
+
+/// Takes the parts of a production from the front, and puts there what the rule makes of them.
+pub fn apply_case(alloc: Global, rule: CaseRule, parts: &mut Parts) -> Result<(), Starved>
+    ensures { OnOk result (parts.new ≡ case_rule rule parts.old) }
+{
+    match rule {
         // Stmt = case Expr is When Whens end case ;
-        BranchRule::Case => {
+        CaseRule::Case => {
             let start = parts.place();
             let selector = parts.expression().expr(alloc)?;
             parts.skip();
@@ -118,7 +126,7 @@ pub fn apply_branch(alloc: Global, rule: BranchRule, parts: &mut Parts) -> Resul
             )
         }
         // When = when Choice Choices => Stmts
-        BranchRule::Alternative => {
+        CaseRule::Alternative => {
             parts.skip();
             let choice = parts.choice().choice();
             let choices = parts.choice().choices(alloc);
@@ -134,7 +142,7 @@ pub fn apply_branch(alloc: Global, rule: BranchRule, parts: &mut Parts) -> Resul
             )
         }
         // Whens = When Whens
-        BranchRule::Alternatives => {
+        CaseRule::Alternatives => {
             let alternative = parts.statement(alloc).alternative(alloc);
             let alternatives = parts
                 .statement(alloc)
@@ -143,7 +151,7 @@ pub fn apply_branch(alloc: Global, rule: BranchRule, parts: &mut Parts) -> Resul
             parts.put_statement(alloc, StatementPart::Alternatives(alternatives))
         }
         // Whens =
-        BranchRule::NoAlternatives => {
+        CaseRule::NoAlternatives => {
             parts.put_statement(alloc, StatementPart::Alternatives(Chain::new(alloc)))
         }
     }
