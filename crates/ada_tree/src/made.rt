@@ -19,7 +19,7 @@ use std::alloc::Global;
 use tree_parts::Parts;
 
 /// The rule of a production, by its number.
-pub fn rule_at(production: u32) -> Rule
+pub fn rule_at(production: u8) -> Rule
     ensures { result ≡ rule_at production }
 {
     match at(&RULES, production as usize) {

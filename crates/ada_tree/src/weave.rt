@@ -17,7 +17,7 @@ pub enum Move {
     /// A token is taken.
     Take,
     /// A phrase is replaced by the right side of this production.
-    Expand(u32),
+    Expand(u8),
 }
 
 /// Symbols that are to be read, the next one first.
@@ -53,7 +53,7 @@ const MOST_SYMBOLS: usize = 3_001;
 /// Replaces the next phrase by the right side of a production, after the tokens before it.
 fn replace(
     grammar: &Grammar,
-    production: u32,
+    production: u8,
     symbols: &mut Symbols,
     moves: &mut Items<Move>,
 ) -> Result<(), Starved>
@@ -69,7 +69,7 @@ fn replace(
 }
 
 /// The moves of the parse whose productions are these.
-pub fn weave(alloc: Global, grammar: &Grammar, used: &[u32]) -> Result<Items<Move>, Starved>
+pub fn weave(alloc: Global, grammar: &Grammar, used: &[u8]) -> Result<Items<Move>, Starved>
     ensures { IfOk result (λ moves. moves ≡ woven productions used.now start) }
 {
     let mut symbols = Symbols::new(alloc);

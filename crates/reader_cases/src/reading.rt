@@ -19,7 +19,7 @@ fn derivation(alloc: Global, text: &[u8]) -> Option<Result<Derivation, SyntaxFau
     Some(derive(alloc, &grammar, &found))
 }
 
-fn push_numbers(out: &mut String, numbers: &[u32]) -> Result<(), AllocError> {
+fn push_numbers(out: &mut String, numbers: &[u8]) -> Result<(), AllocError> {
     for number in numbers {
         write!(out, "{number} ")?;
     }
