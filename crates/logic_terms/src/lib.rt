@@ -11,6 +11,7 @@ mod laws;
 mod model;
 mod names;
 mod nesting;
+mod node;
 mod operators;
 mod parts;
 mod put;

@@ -6,7 +6,6 @@ use sqlite_items::{Boxed, Items};
 pub type SortList = Items<Sort>;
 
 /// What a term has as its value.
-#[derive(Drop)]
 pub enum Sort {
     /// Whole numbers, `N`.
     Num,
@@ -16,4 +15,15 @@ pub enum Sort {
     Array(Boxed<Sort>),
     /// Records of these sorts, `(R S ..)`.
     Record(SortList),
+}
+
+impl Drop for Sort {
+    fn drop(self) {
+        match self {
+            Sort::Num => {}
+            Sort::Truth => {}
+            Sort::Array(item) => drop(item),
+            Sort::Record(fields) => drop(fields),
+        }
+    }
 }
