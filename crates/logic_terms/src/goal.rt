@@ -21,56 +21,25 @@ pub enum Role {
 }
 
 /// A symbol of a goal.
+#[derive(Drop)]
 pub struct Symbol {
     pub sort: Sort,
     pub role: Role,
 }
 
-impl Drop for Symbol {
-    fn drop(self) {
-        let Symbol { sort, role: _ } = self;
-        drop(sort);
-    }
-}
-
 /// A call of a goal: the sorts of its arguments and of its answer, and the number of its subprogram.
+#[derive(Drop)]
 pub struct Call {
     pub arguments: SortList,
     pub answer: Sort,
     pub sub: Option<u32>,
 }
 
-impl Drop for Call {
-    fn drop(self) {
-        let Call {
-            arguments,
-            answer,
-            sub: _,
-        } = self;
-        drop(arguments);
-        drop(answer);
-    }
-}
-
 /// A goal: the conclusion is to hold wherever the hypotheses do.
+#[derive(Drop)]
 pub struct Goal {
     pub symbols: SymbolList,
     pub calls: CallList,
     pub hypotheses: FormulaList,
     pub conclusion: Formula,
-}
-
-impl Drop for Goal {
-    fn drop(self) {
-        let Goal {
-            symbols,
-            calls,
-            hypotheses,
-            conclusion,
-        } = self;
-        drop(symbols);
-        drop(calls);
-        drop(hypotheses);
-        drop(conclusion);
-    }
 }

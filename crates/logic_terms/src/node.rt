@@ -27,16 +27,18 @@ pub enum Leaf {
     Bound(u32),
 }
 
-/// An operator with one operand.
+/// An operator of terms and formulas with one operand.
 #[derive(Clone, Copy)]
 pub enum UnaryNode {
+    /// A truth value as a term.
     Bit,
+    /// A term of truth values as a formula.
     Truth,
     Not,
     Term(UnaryOperator),
 }
 
-/// An operator with two operands.
+/// An operator of terms and formulas with two operands.
 #[derive(Clone, Copy)]
 pub enum BinaryNode {
     Term(BinaryOperator),
@@ -44,9 +46,10 @@ pub enum BinaryNode {
     Joined(Connective),
 }
 
-/// An operator with three operands.
+/// An operator of terms and formulas with three operands.
 #[derive(Clone, Copy)]
 pub enum TernaryNode {
+    /// Between two terms, by a formula.
     Choice,
     Term(TernaryOperator),
 }

@@ -6,6 +6,7 @@ use sqlite_items::{Boxed, Items};
 pub type SortList = Items<Sort>;
 
 /// What a term has as its value.
+#[derive(Drop)]
 pub enum Sort {
     /// Whole numbers, `N`.
     Num,
@@ -15,15 +16,4 @@ pub enum Sort {
     Array(Boxed<Sort>),
     /// Records of these sorts, `(R S ..)`.
     Record(SortList),
-}
-
-impl Drop for Sort {
-    fn drop(self) {
-        match self {
-            Sort::Num => {}
-            Sort::Truth => {}
-            Sort::Array(item) => drop(item),
-            Sort::Record(fields) => drop(fields),
-        }
-    }
 }
