@@ -4,4 +4,5 @@ pub mod Whole
 pub mod Equal
 pub mod Views
 pub mod Results
+pub mod Modulo
 pub mod Parts

@@ -5,3 +5,4 @@ pub mod Parts
 pub mod Combine
 pub mod Division
 pub mod Whole
+pub mod Residues

@@ -2,8 +2,6 @@
 use Rattle.std.specs.Prelude.{◌≡◌, ℕ, Bool, ◌&&◌, Option, Some, None, ℤ, pos, negsuc, ◌≤ℤ◌, ◌-ℤ◌}
 use Rattle.std.specs.Int.RustNames.{int_le}
 use Rattle.ada_values.specs.declared.scalars.Scalar.{Scalar}
-use Rattle.ada_values.specs.declared.scalars.Op.{Op}
-use Rattle.ada_values.specs.declared.scalars.Op.TheVariants.{Pow}
 
 -- Integer'Last; Integer'First is one further from 0 -- Ada RM 3.5.4
 abbrev pub integer_last : ℕ
@@ -23,10 +21,15 @@ in_scalar s v = within s.lo s.hi v
 abbrev pub in_base : Scalar → ℤ → Bool
 in_base s v = within s.base_lo s.base_hi v
 
--- a modulus N is from 2 to 2 ** 32, and the base range is then 0 .. N - 1
+-- a modulus is from 2 to 2 ** 64
+abbrev pub IsModulus : Option ℤ → Type 0
+IsModulus None = Unit {0}
+IsModulus (Some n) = (pos 2 ≤ℤ n) × (n ≤ℤ pos 18446744073709551616)
+
+-- the base range of a modulus N is 0 .. N - 1
 abbrev pub HasModulus : Option ℤ → ℤ → ℤ → Type 0
 HasModulus None lo hi = Unit {0}
-HasModulus (Some n) lo hi = (pos 2 ≤ℤ n) × (n ≤ℤ pos 4294967296) × (lo ≡ pos 0) × (hi ≡ n -ℤ pos 1)
+HasModulus (Some n) lo hi = (pos 2 ≤ℤ n) × (n ≤ℤ pos 18446744073709551616) × (lo ≡ pos 0) × (hi ≡ n -ℤ pos 1)
 
 abbrev pub IsScalar : Scalar → Type 0
 IsScalar s = HasModulus s.modulus s.base_lo s.base_hi
@@ -36,8 +39,3 @@ IsBetween lo hi v = (lo ≤ℤ v) × (v ≤ℤ hi)
 
 abbrev pub InBase : Scalar → ℤ → Type 0
 InBase s v = IsBetween s.base_lo s.base_hi v
-
--- an exponent is an Integer, and any other right operand lies in the base range -- Ada RM 4.5.6
-abbrev pub IsRight : Op → ℤ → ℤ → ℤ → Type 0
-IsRight Pow lo hi b = IsBetween (negsuc integer_last) (pos integer_last) b
-IsRight _ lo hi b = IsBetween lo hi b

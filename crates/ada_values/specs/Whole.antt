@@ -1,10 +1,7 @@
 -- What the code computes on the way to a result.
-use Rattle.std.specs.Prelude.{◌≡◌, Option, Result, Ok, Err, ℤ, pos, ◌≤ℤ◌, FitsSigned}
+use Rattle.std.specs.Prelude.{◌≡◌, Option, Result, Ok, Err, ℤ, FitsSigned}
 use Rattle.std.specs.Int.{w128}
 use Rattle.std.specs.Option.{SomeIff}
-use Rattle.ada_values.specs.Scalars.{integer_last}
-use Rattle.ada_values.specs.declared.scalars.Op.{Op}
-use Rattle.ada_values.specs.declared.scalars.Op.TheVariants.{Pow}
 use Rattle.ada_values.specs.declared.scalars.OpFault.{OpFault}
 
 -- the mathematical result where it has 128 bits
@@ -12,8 +9,3 @@ abbrev pub IsWhole : Result ℤ OpFault → Result (Option ℤ) OpFault → Type
 IsWhole (Ok z) (Ok o) = SomeIff o (FitsSigned w128 z) z
 IsWhole (Err e) (Err f) = f ≡ e
 IsWhole _ _ = ⊥
-
--- an exponent is at most Integer'Last
-abbrev pub IsExponent : Op → ℤ → Type 0
-IsExponent Pow b = b ≤ℤ pos integer_last
-IsExponent _ b = Unit {0}

@@ -1,6 +1,7 @@
 //! Places, values, scalar types, shapes and the operations of the profile, with the small list types of the product.
 #![tactic(auto)]
 
+mod modular;
 mod names;
 mod operations;
 mod place;

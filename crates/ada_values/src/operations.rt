@@ -1,22 +1,21 @@
 //! The operations of scalar types.
 
-ghost use Rattle.std.specs.Prelude.{◌≡◌, ◌≢◌, pos, ◌≤ℤ◌, ◌<◌, ◌≤◌, ◌%◌, ◌^◌, ◌-ℤ◌};
-ghost use Rattle.ada_values.specs.Combine.{floor_mod, exact, ranged, wrapped, combined, ResultLaw};
+ghost use Rattle.std.specs.Prelude.{◌≡◌, ◌≢◌, pos};
+ghost use Rattle.ada_values.specs.Combine.{floor_mod, exact, ranged, combined, ResultLaw};
 ghost use Rattle.ada_values.specs.Division.{ModuloLaw, QuotientLaw};
-ghost use Rattle.ada_values.specs.Scalars.{integer_last, IsScalar, InBase, IsBetween, IsRight};
-ghost use Rattle.ada_values.specs.Whole.{IsWhole, IsExponent};
+ghost use Rattle.ada_values.specs.Scalars.{IsModulus};
+ghost use Rattle.ada_values.specs.Whole.{IsWhole};
 
+use crate::modular::modular_result;
 use crate::scalars::{Op, OpFault, Scalar};
 
-/// The result of an operation in a scalar type, from operands in its base range; the exponent of `**` is an `Integer`.
+/// The result of an operation in a scalar type, from any operands. A modulus, where the type has one, is from 2 to 2^64.
 ///
 /// `Neg` and `Abs` have the operand `a`. The error is `ZeroDivisor` where `/`, `rem` or `mod` has the divisor 0,
 /// `NegativeExponent` where `**` has an exponent below 0, and `Overflow` where the type has no modulus and the
 /// mathematical result lies outside its base range.
 pub fn combine(op: Op, s: &Scalar, a: i128, b: i128) -> Result<i128, OpFault>
-    requires scalar { IsScalar s.now }
-    requires left { InBase s.now a }
-    requires right { IsRight op s.now.base_lo s.now.base_hi b }
+    requires { IsModulus s.now.modulus }
     ensures { result ≡ combined op s.now a b }
 {
     match s.modulus {
@@ -34,7 +33,6 @@ pub fn operation_laws()
 
 // The result in a type without modulus.
 fn ranged_result(op: Op, lo: i128, hi: i128, a: i128, b: i128) -> Result<i128, OpFault>
-    requires { IsExponent op b }
     ensures { result ≡ ranged lo hi (exact op a b) }
 {
     match whole_result(op, a, b)? {
@@ -49,57 +47,8 @@ fn ranged_result(op: Op, lo: i128, hi: i128, a: i128, b: i128) -> Result<i128, O
     }
 }
 
-// The result modulo `modulus`.
-fn modular_result(op: Op, modulus: i128, a: i128, b: i128) -> Result<i128, OpFault>
-    requires modulus { IsBetween (pos 2) (pos 4294967296) modulus }
-    requires left { IsBetween (pos 0) (modulus -ℤ pos 1) a }
-    requires right { IsRight op (pos 0) (modulus -ℤ pos 1) b }
-    ensures { result ≡ wrapped modulus (exact op a b) }
-{
-    if op == Op::Pow {
-        return modular_power(modulus, a, b);
-    }
-    match whole_result(op, a, b)? {
-        Some(v) => Ok(v.rem_euclid(modulus)),
-        None => unreachable!(),
-    }
-}
-
-// `a ** b` modulo `modulus`.
-fn modular_power(modulus: i128, a: i128, b: i128) -> Result<i128, OpFault>
-    requires modulus { IsBetween (pos 2) (pos 4294967296) modulus }
-    requires left { IsBetween (pos 0) (modulus -ℤ pos 1) a }
-    requires right { b ≤ℤ pos integer_last }
-    ensures { result ≡ wrapped modulus (exact Op.Pow a b) }
-{
-    if b < 0 {
-        Err(OpFault::NegativeExponent)
-    } else {
-        Ok(power_modulo(a as u64, b as u32, modulus as u64) as i128)
-    }
-}
-
-// `base ** exponent` modulo `modulus`, by squares.
-fn power_modulo(base: u64, exponent: u32, modulus: u64) -> u64
-    requires { (2 ≤ modulus) × (modulus ≤ 4294967296) × (base < modulus) }
-    ensures { result ≡ (base ^ exponent) % modulus }
-{
-    let mut power = 1;
-    let mut square = base;
-    let mut left = exponent;
-    while 0 < left {
-        if left % 2 == 1 {
-            power = power * square % modulus;
-        }
-        square = square * square % modulus;
-        left /= 2;
-    }
-    power
-}
-
 // The mathematical result, or None where it has more than 128 bits.
 fn whole_result(op: Op, a: i128, b: i128) -> Result<Option<i128>, OpFault>
-    requires { IsExponent op b }
     ensures { IsWhole (exact op a b) result }
 {
     match op {
@@ -145,19 +94,21 @@ fn modulo(a: i128, b: i128) -> Result<Option<i128>, OpFault>
     }
 }
 
+// From 128 on a power has 128 bits only of 0, 1 and -1, where it depends on whether the exponent is even.
 fn power(a: i128, b: i128) -> Result<Option<i128>, OpFault>
-    requires { b ≤ℤ pos integer_last }
     ensures { IsWhole (exact Op.Pow a b) result }
 {
     if b < 0 {
         Err(OpFault::NegativeExponent)
-    } else {
+    } else if b < 128 {
         Ok(a.checked_pow(b as u32))
+    } else {
+        Ok(a.checked_pow(128 + (b.unsigned_abs() % 2) as u32))
     }
 }
 
 // The remainder with the sign of the divisor.
-fn floor_rem(a: i128, b: i128) -> i128
+pub fn floor_rem(a: i128, b: i128) -> i128
     requires { b ≢ pos 0 }
     ensures { result ≡ floor_mod a b }
 {

@@ -7,7 +7,7 @@
 //! | Case | Answer |
 //! |---|---|
 //! | `integer A OP B`, `integer OP A` | the result in Integer, or `overflow`, `zero divisor` or `negative exponent` |
-//! | `mod N A OP B`, `mod N OP A` | the same in the modular type of N values, N being from 2 to 4294967296 |
+//! | `mod N A OP B`, `mod N OP A` | the same in the modular type of N values, N being from 2 to 2^64 |
 //! | `in LO HI V` | whether V belongs to the subtype from LO to HI |
 //! | `fits SHAPE VALUE` | whether the value is one of the shape of this number in the list of `shapes.rt` |
 //! | `same VALUE / VALUE` | whether the values are equal |

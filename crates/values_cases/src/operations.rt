@@ -1,13 +1,13 @@
 //! Cases of operations and of subtypes.
 
-ghost use Rattle.std.specs.Prelude.{◌≤◌, ◌-ℤ◌, pos, negsuc, IfSome};
-ghost use Rattle.ada_values.specs.Scalars.{integer_last, IsScalar, InBase, IsBetween, IsRight};
+ghost use Rattle.std.specs.Prelude.{◌≤ℤ◌, pos};
+ghost use Rattle.ada_values.specs.Scalars.{IsModulus};
 
 use crate::answer::Answer;
 use ada_values::{INTEGER_FIRST, INTEGER_LAST, Op, Scalar, combine, in_scalar};
 
 /// The most values of a modular type.
-const MOST_VALUES: u64 = 4_294_967_296;
+const MOST_VALUES: i128 = 18_446_744_073_709_551_616;
 
 /// The subtype Integer.
 const INTEGER: Scalar = Scalar {
@@ -39,26 +39,6 @@ pub fn number_of(word: &[u8]) -> Option<i128> {
     str::from_utf8(word).ok()?.parse::<i128>().ok()
 }
 
-/// The number of Integer that a word is.
-fn integer_of(word: &[u8]) -> Option<i128>
-    ensures { IfSome result (λ v. IsBetween (negsuc integer_last) (pos integer_last) v) }
-{
-    let number = str::from_utf8(word).ok()?.parse::<i32>().ok()?;
-    Some(i128::from(number))
-}
-
-/// The number from 0 to `modulus` - 1 that a word is.
-fn residue_of(modulus: u64, word: &[u8]) -> Option<i128>
-    ensures { IfSome result (λ v. IsBetween (pos 0) (pos modulus -ℤ pos 1) v) }
-{
-    let number = str::from_utf8(word).ok()?.parse::<u64>().ok()?;
-    if number < modulus {
-        Some(i128::from(number))
-    } else {
-        None
-    }
-}
-
 /// The words of an operation and its operands, of which there is one for `neg` and `abs`, whose right operand is then 0.
 fn parts_of(words: &[Vec<u8>]) -> Option<(Op, &[u8], &[u8])> {
     match words {
@@ -69,11 +49,15 @@ fn parts_of(words: &[Vec<u8>]) -> Option<(Op, &[u8], &[u8])> {
 }
 
 /// The answer to an operation in a type.
-fn answer_in(scalar: &Scalar, op: Op, left: i128, right: i128) -> Answer
-    requires scalar { IsScalar scalar.now }
-    requires left { InBase scalar.now left }
-    requires right { IsRight op scalar.now.base_lo scalar.now.base_hi right }
+fn answer_in(scalar: &Scalar, words: &[Vec<u8>]) -> Answer
+    requires { IsModulus scalar.now.modulus }
 {
+    let Some((op, left, right)) = parts_of(words) else {
+        return Answer::NoCase;
+    };
+    let (Some(left), Some(right)) = (number_of(left), number_of(right)) else {
+        return Answer::NoCase;
+    };
     match combine(op, scalar, left, right) {
         Ok(number) => Answer::Number(number),
         Err(fault) => Answer::Fault(fault),
@@ -82,43 +66,21 @@ fn answer_in(scalar: &Scalar, op: Op, left: i128, right: i128) -> Answer
 
 /// The answer to an operation in Integer.
 pub fn in_integer(words: &[Vec<u8>]) -> Answer {
-    let Some((op, left, right)) = parts_of(words) else {
-        return Answer::NoCase;
-    };
-    match (integer_of(left), integer_of(right)) {
-        (Some(left), Some(right)) => answer_in(&INTEGER, op, left, right),
-        _ => Answer::NoCase,
-    }
+    answer_in(&INTEGER, words)
 }
 
-/// The right operand that a word is: a number of Integer for `**`, and else one of the modular type.
-fn right_of(modulus: u64, op: Op, word: &[u8]) -> Option<i128>
-    ensures { IfSome result (λ v. IsRight op (pos 0) (pos modulus -ℤ pos 1) v) }
+/// The modular type of so many values.
+fn modular(modulus: i128) -> Scalar
+    requires { (pos 2 ≤ℤ modulus) × (modulus ≤ℤ pos 18446744073709551616) }
+    ensures { IsModulus result.modulus }
 {
-    match op {
-        Op::Pow => integer_of(word),
-        _ => residue_of(modulus, word),
-    }
-}
-
-/// The answer to an operation in the modular type of so many values.
-fn answer_modular(modulus: u64, words: &[Vec<u8>]) -> Answer
-    requires { (2 ≤ modulus) × (modulus ≤ 4294967296) }
-{
-    let Some((op, left, right)) = parts_of(words) else {
-        return Answer::NoCase;
-    };
-    let last = i128::from(modulus - 1);
-    let scalar = Scalar {
+    let last = modulus - 1;
+    Scalar {
         lo: 0,
         hi: last,
         base_lo: 0,
         base_hi: last,
-        modulus: Some(i128::from(modulus)),
-    };
-    match (residue_of(modulus, left), right_of(modulus, op, right)) {
-        (Some(left), Some(right)) => answer_in(&scalar, op, left, right),
-        _ => Answer::NoCase,
+        modulus: Some(modulus),
     }
 }
 
@@ -127,8 +89,10 @@ pub fn in_modular(words: &[Vec<u8>]) -> Answer {
     let Some((word, words)) = words.split_first() else {
         return Answer::NoCase;
     };
-    match number_of(word.as_slice()).and_then(|number| u64::try_from(number).ok()) {
-        Some(modulus) if 2 <= modulus && modulus <= MOST_VALUES => answer_modular(modulus, words),
+    match number_of(word.as_slice()) {
+        Some(modulus) if 2 <= modulus && modulus <= MOST_VALUES => {
+            answer_in(&modular(modulus), words)
+        }
         _ => Answer::NoCase,
     }
 }

@@ -1,5 +1,5 @@
 use Rattle.std.proofs.Common.{◌≡◌, ◌*◌, ◌%◌, ◌^◌, ◌<◌}
-use Rattle.ada_values.proofs.operations.power_modulo.Given as goal
+use Rattle.ada_values.proofs.modular.power_modulo.Given as goal
 
 abbrev pub invariant-loop-left : goal.invariant-loop-left
 invariant-loop-left l = record {

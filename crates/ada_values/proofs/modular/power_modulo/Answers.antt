@@ -1,8 +1,8 @@
 use Rattle.std.proofs.Common.{arith, ◌∙◌, ◌*◌}
 use Rattle.std.proofs.lemmas.Nat.{mod_below}
 use Rattle.ada_values.proofs.Powers.{even_turn, odd_turn}
-use Rattle.ada_values.proofs.operations.power_modulo.Goals as goal
-use Rattle.ada_values.proofs.operations.power_modulo.Goals.{then-left-eq1, else-left-eq1}
+use Rattle.ada_values.proofs.modular.power_modulo.Goals as goal
+use Rattle.ada_values.proofs.modular.power_modulo.Goals.{then-left-eq1, else-left-eq1}
 
 pub loop-left-preserved : goal.loop-left-preserved
 loop-left-preserved c =
