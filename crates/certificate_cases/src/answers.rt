@@ -1,5 +1,6 @@
 //! The answer to a case.
 
+use crate::kind::{Kind, kind_of};
 use crate::{clauses, goals, judged, sorts, stored};
 use case_lines::words_of;
 use case_parts::{CaseFault, push_fault};
@@ -7,32 +8,50 @@ use logic_terms::Goal;
 use sqlite_items::Boxed;
 use std::alloc::{AllocError, Global};
 
-/// The answer of a kind of case to its words.
-fn answer_words(
+/// The answer to a case of one word.
+fn of_one(
     alloc: Global,
     line: &mut String,
     goal: &mut Boxed<Goal>,
-    kind: &[u8],
-    words: &[Vec<u8>],
+    kind: Kind,
+    word: &[u8],
 ) -> Result<(), CaseFault> {
     match kind {
-        b"with" => goals::change(alloc, line, goal, words),
-        b"goal" => goals::text(alloc, line, words),
-        b"copy" => goals::copied(alloc, line, words),
-        b"roles" => goals::other_roles(alloc, line, words),
-        b"cert" => judged::text(alloc, line, words),
-        b"check" => judged::checked(alloc, line, goal.get(), words),
-        b"line" => judged::allowed(alloc, line, goal.get(), words),
-        b"clause" => clauses::made(alloc, line, goal.get(), words),
-        b"sort" => sorts::sort(alloc, line, goal.get(), words),
-        b"number" => sorts::number(alloc, line, goal.get(), words),
-        b"formula" => sorts::formula(alloc, line, goal.get(), words),
-        b"follows" => stored::follows(alloc, line, words),
+        Kind::With => goals::change(alloc, line, goal, word),
+        Kind::Goal(kind) => goals::of_goal(alloc, line, kind, word),
+        Kind::Cert => judged::text(alloc, line, word),
+        Kind::Check => judged::checked(alloc, line, goal.get(), word),
+        Kind::Line => judged::allowed(alloc, line, goal.get(), word),
+        Kind::Clause => clauses::made(alloc, line, goal.get(), word),
         _ => Err(CaseFault::BadCase),
     }
 }
 
-fn answer_line(
+/// The answer of a kind of case to its words.
+fn of_words(
+    alloc: Global,
+    line: &mut String,
+    goal: &mut Boxed<Goal>,
+    kind: Kind,
+    words: &[Vec<u8>],
+) -> Result<(), CaseFault> {
+    if let Kind::Follows = kind {
+        return stored::follows(alloc, line, words);
+    }
+    match words {
+        [word] => of_one(alloc, line, goal, kind, word.as_slice()),
+        [fresh, word] => match kind {
+            Kind::Sort(kind) => {
+                let fresh = fresh.as_slice();
+                sorts::of_part(alloc, line, goal.get(), kind, fresh, word.as_slice())
+            }
+            _ => Err(CaseFault::BadCase),
+        },
+        _ => Err(CaseFault::BadCase),
+    }
+}
+
+fn of_line(
     alloc: Global,
     line: &mut String,
     goal: &mut Boxed<Goal>,
@@ -41,7 +60,10 @@ fn answer_line(
     match words_of(alloc, text) {
         Err(fault) => Err(CaseFault::from(fault)),
         Ok(words) => match words.as_slice() {
-            [kind, rest @ ..] => answer_words(alloc, line, goal, kind.as_slice(), rest),
+            [word, rest @ ..] => match kind_of(word.as_slice()) {
+                Some(kind) => of_words(alloc, line, goal, kind, rest),
+                None => Err(CaseFault::BadCase),
+            },
             [] => Err(CaseFault::BadCase),
         },
     }
@@ -54,7 +76,7 @@ pub fn answer(alloc: Global, goal: &mut Boxed<Goal>, text: &str) -> Result<Strin
         line.push_str(text)?;
         return Ok(line);
     }
-    if let Err(fault) = answer_line(alloc, &mut line, goal, text.as_bytes()) {
+    if let Err(fault) = of_line(alloc, &mut line, goal, text.as_bytes()) {
         push_fault(&mut line, fault)?;
     }
     Ok(line)

@@ -1,6 +1,6 @@
 //! The clauses of rules.
 
-use crate::texts::cert_of_lines;
+use crate::texts::cert_of_line;
 use case_parts::{CaseFault, push, push_formula_text};
 use cert_arrays::{array_clause, extensional};
 use cert_clauses::{
@@ -120,12 +120,7 @@ fn push_first(alloc: Global, line: &mut String, goal: &Goal, cert: &Cert) -> Res
 }
 
 /// `clause LINE`
-pub fn made(
-    alloc: Global,
-    line: &mut String,
-    goal: &Goal,
-    words: &[Vec<u8>],
-) -> Result<(), CaseFault> {
-    let cert = cert_of_lines(alloc, words)?;
+pub fn made(alloc: Global, line: &mut String, goal: &Goal, word: &[u8]) -> Result<(), CaseFault> {
+    let cert = cert_of_line(alloc, word)?;
     push_first(alloc, line, goal, &cert)
 }

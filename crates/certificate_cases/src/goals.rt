@@ -1,5 +1,6 @@
 //! Goals.
 
+use crate::kind::GoalKind;
 use crate::texts::goal_of;
 use case_parts::{CaseFault, push, push_text};
 use logic_terms::{Call, CallList, Formula, Goal, Role, Symbol, SymbolList, copy_formulas};
@@ -23,46 +24,16 @@ pub fn change(
     alloc: Global,
     line: &mut String,
     goal: &mut Boxed<Goal>,
-    words: &[Vec<u8>],
+    word: &[u8],
 ) -> Result<(), CaseFault> {
-    match words {
-        [text] => {
-            *goal = goal_of(alloc, text.as_slice())?;
-            push(line, "read")
-        }
-        _ => Err(CaseFault::BadCase),
-    }
+    *goal = goal_of(alloc, word)?;
+    push(line, "read")
 }
 
 fn push_goal(alloc: Global, line: &mut String, goal: &Goal) -> Result<(), CaseFault> {
     match goal_text(alloc, goal) {
         Ok(text) => push_text(line, text.as_slice()),
         Err(_) => Err(CaseFault::Starved),
-    }
-}
-
-/// `goal GOAL`
-pub fn text(alloc: Global, line: &mut String, words: &[Vec<u8>]) -> Result<(), CaseFault> {
-    match words {
-        [text] => {
-            let goal = goal_of(alloc, text.as_slice())?;
-            push_goal(alloc, line, goal.get())
-        }
-        _ => Err(CaseFault::BadCase),
-    }
-}
-
-/// `copy GOAL`
-pub fn copied(alloc: Global, line: &mut String, words: &[Vec<u8>]) -> Result<(), CaseFault> {
-    match words {
-        [text] => {
-            let goal = goal_of(alloc, text.as_slice())?;
-            match goal.get().copy(alloc) {
-                Ok(copy) => push_goal(alloc, line, &copy),
-                Err(_) => Err(CaseFault::Starved),
-            }
-        }
-        _ => Err(CaseFault::BadCase),
     }
 }
 
@@ -123,16 +94,23 @@ fn with_roles(alloc: Global, goal: &Goal) -> Result<Boxed<Goal>, AllocError> {
     }
 }
 
-/// `roles GOAL`
-pub fn other_roles(alloc: Global, line: &mut String, words: &[Vec<u8>]) -> Result<(), CaseFault> {
-    match words {
-        [text] => {
-            let goal = goal_of(alloc, text.as_slice())?;
-            match with_roles(alloc, goal.get()) {
-                Ok(other) => push_goal(alloc, line, other.get()),
-                Err(_) => Err(CaseFault::Starved),
-            }
-        }
-        _ => Err(CaseFault::BadCase),
+/// `goal GOAL`, `copy GOAL`, `roles GOAL`
+pub fn of_goal(
+    alloc: Global,
+    line: &mut String,
+    kind: GoalKind,
+    word: &[u8],
+) -> Result<(), CaseFault> {
+    let goal = goal_of(alloc, word)?;
+    match kind {
+        GoalKind::Text => push_goal(alloc, line, goal.get()),
+        GoalKind::Copy => match goal.get().copy(alloc) {
+            Ok(copy) => push_goal(alloc, line, &copy),
+            Err(_) => Err(CaseFault::Starved),
+        },
+        GoalKind::Roles => match with_roles(alloc, goal.get()) {
+            Ok(other) => push_goal(alloc, line, other.get()),
+            Err(_) => Err(CaseFault::Starved),
+        },
     }
 }

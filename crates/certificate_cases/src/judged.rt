@@ -1,6 +1,6 @@
 //! Certificates and lines that are judged.
 
-use crate::texts::{cert_of, cert_of_lines};
+use crate::texts::{cert_of, cert_of_line};
 use case_parts::{CaseFault, push, push_text};
 use cert_checker::{CertRefusal, checks};
 use cert_lines::{Cert, Rule};
@@ -9,16 +9,11 @@ use logic_text::cert_text;
 use std::alloc::{AllocError, Global};
 
 /// `cert CERT`
-pub fn text(alloc: Global, line: &mut String, words: &[Vec<u8>]) -> Result<(), CaseFault> {
-    match words {
-        [text] => {
-            let cert = cert_of(alloc, text.as_slice())?;
-            match cert_text(alloc, &cert) {
-                Ok(text) => push_text(line, text.as_slice()),
-                Err(_) => Err(CaseFault::Starved),
-            }
-        }
-        _ => Err(CaseFault::BadCase),
+pub fn text(alloc: Global, line: &mut String, word: &[u8]) -> Result<(), CaseFault> {
+    let cert = cert_of(alloc, word)?;
+    match cert_text(alloc, &cert) {
+        Ok(text) => push_text(line, text.as_slice()),
+        Err(_) => Err(CaseFault::Starved),
     }
 }
 
@@ -36,17 +31,12 @@ pub fn checked(
     alloc: Global,
     line: &mut String,
     goal: &Goal,
-    words: &[Vec<u8>],
+    word: &[u8],
 ) -> Result<(), CaseFault> {
-    match words {
-        [text] => {
-            let cert = cert_of(alloc, text.as_slice())?;
-            match checks(alloc, goal, &cert) {
-                Ok(()) => push(line, "accepted"),
-                Err(refusal) => Ok(push_refusal(line, refusal)?),
-            }
-        }
-        _ => Err(CaseFault::BadCase),
+    let cert = cert_of(alloc, word)?;
+    match checks(alloc, goal, &cert) {
+        Ok(()) => push(line, "accepted"),
+        Err(refusal) => Ok(push_refusal(line, refusal)?),
     }
 }
 
@@ -77,14 +67,9 @@ pub fn allowed(
     alloc: Global,
     line: &mut String,
     goal: &Goal,
-    words: &[Vec<u8>],
+    word: &[u8],
 ) -> Result<(), CaseFault> {
-    match words {
-        [_] => {
-            let cert = cert_of_lines(alloc, words)?;
-            let rule = first_rule(&cert)?;
-            Ok(push_judgement(line, rule, checks(alloc, goal, &cert))?)
-        }
-        _ => Err(CaseFault::BadCase),
-    }
+    let cert = cert_of_line(alloc, word)?;
+    let rule = first_rule(&cert)?;
+    Ok(push_judgement(line, rule, checks(alloc, goal, &cert))?)
 }

@@ -22,6 +22,7 @@ mod answers;
 mod clauses;
 mod goals;
 mod judged;
+mod kind;
 mod sorts;
 mod stored;
 mod texts;

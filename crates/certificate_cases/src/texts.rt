@@ -35,13 +35,34 @@ pub fn cert_of(alloc: Global, word: &[u8]) -> Result<Cert, CaseFault> {
     }
 }
 
+fn push_line(text: &mut Vec<u8>, line: &[u8]) -> Result<(), AllocError> {
+    text.extend_from_slice(line)?;
+    text.extend_from_slice(b"\n")
+}
+
+/// The text of the certificate of one line.
+fn text_of_line(alloc: Global, line: &[u8]) -> Result<Vec<u8>, AllocError> {
+    let mut text = Vec::new(alloc);
+    text.extend_from_slice(b"cert 1\n")?;
+    push_line(&mut text, line)?;
+    text.extend_from_slice(b"end\n")?;
+    Ok(text)
+}
+
+/// The certificate of the one line that a word is.
+pub fn cert_of_line(alloc: Global, line: &[u8]) -> Result<Cert, CaseFault> {
+    match text_of_line(alloc, line) {
+        Ok(text) => cert_of(alloc, text.as_slice()),
+        Err(_) => Err(CaseFault::Starved),
+    }
+}
+
 /// The text of the certificate of these lines.
 fn text_of_lines(alloc: Global, lines: &[Vec<u8>]) -> Result<Vec<u8>, AllocError> {
     let mut text = Vec::new(alloc);
     text.extend_from_slice(b"cert 1\n")?;
     for line in lines {
-        text.extend_from_slice(line.as_slice())?;
-        text.extend_from_slice(b"\n")?;
+        push_line(&mut text, line.as_slice())?;
     }
     text.extend_from_slice(b"end\n")?;
     Ok(text)

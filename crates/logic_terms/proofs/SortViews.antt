@@ -1,6 +1,6 @@
 -- No two sorts are one kind.
-use Rattle.std.proofs.Common.{◌≡◌, refl, sym, ◌∙◌, ap, ap₂, subst, Bool, true, false, List, [], ◌∷◌, map, IsTrue, ◌↔◌}
-use Rattle.logic_terms.specs.Value.{Kind, numbers, truths, arrays, records, Kinds, no_kinds, kind, same_kind}
+use Rattle.std.proofs.Common.{◌≡◌, ◌≢◌, refl, suc, length, ◌&&◌, sym, ◌∙◌, ap, ap₂, subst, Bool, true, false, List, [], ◌∷◌, map, IsTrue, ◌↔◌}
+use Rattle.logic_terms.specs.Value.{Kind, numbers, truths, arrays, records, Kinds, no_kinds, kind, same_kind, same_kinds}
 use Rattle.logic_terms.specs.Sorts.{sort, sort_step, kinds_in}
 use Rattle.logic_terms.specs.declared.sort.Sort.{Sort, roll-Sort, map-Sort, ind-Sort, fold-roll-Sort}
 use Rattle.logic_terms.specs.declared.sort.Sort.TheVariants as s
@@ -38,13 +38,19 @@ pub sort_came : (x : Sort) → sort_back (sort x) ≡ x
 sort_came = ind-Sort Came (λ x y is.
     subst (λ z. Came (roll-Sort z)) is (ap sort_back (fold-roll-Sort Kind sort_step (map-Sort Told Sort (λ e. e.0) y)) ∙ layer y))
 
-bools : (r b : Bool) → (r ≡ true → b ≡ true) → (b ≡ true → r ≡ true) → r ≡ b
-bools true b f g = sym (f refl)
-bools false true f g = g refl
-bools false false f g = refl
+-- a test of kinds is one of their sorts
+pub same_sorts_law : (r : Bool) (a b : Sort) → r ≡ same_kind (sort a) (sort b) → IsTrue r ↔ (a ≡ b)
+same_sorts_law r a b h = (
+  (λ e. sym (sort_came a) ∙ ap sort_back (same_kind-is (sort a) (sort b) (sym h ∙ e)) ∙ sort_came b),
+  (λ e. h ∙ subst (λ x. same_kind (sort a) (sort x) ≡ true) e (same_kind-refl (sort a))),
+)
 
--- a test of sorts is one of their kinds
-pub same_sorts_law : (r : Bool) (a b : Sort) → (IsTrue r ↔ (a ≡ b)) → r ≡ same_kind (sort a) (sort b)
-same_sorts_law r a b h =
-    bools r (same_kind (sort a) (sort b)) (λ e. subst (λ x. same_kind (sort a) (sort x) ≡ true) (h.0 e) (same_kind-refl (sort a)))
-    (λ e. h.1 (sym (sort_came a) ∙ ap sort_back (same_kind-is (sort a) (sort b) e) ∙ sort_came b))
+and_false : (a b : Bool) → b ≡ false → (a && b) ≡ false
+and_false true b h = h
+and_false false b h = refl
+
+pub sorts_lengths : (xs ys : List Sort) → length xs ≢ length ys → same_kinds (kinds_in (map sort xs)) (kinds_in (map sort ys)) ≡ false
+sorts_lengths [] [] h = absurd (h refl)
+sorts_lengths [] (y ∷ ys) h = refl
+sorts_lengths (x ∷ xs) [] h = refl
+sorts_lengths (x ∷ xs) (y ∷ ys) h = and_false (same_kind (sort x) (sort y)) _ (sorts_lengths xs ys (λ e. h (ap (λ n. suc n) e)))

@@ -17,3 +17,4 @@ pub mod Text
 pub mod Operators
 pub mod Parts
 pub mod Weight
+pub mod NodeParts

@@ -1,13 +1,14 @@
 //! Whether the value of a formula is fixed.
 
 ghost use Rattle.std.specs.Prelude.{◌≡◌};
-ghost use Rattle.logic_terms.specs.View.{term, formula, terms};
+ghost use Rattle.logic_terms.specs.NodeParts.{node_of};
+ghost use Rattle.logic_terms.specs.View.{formula, terms};
 ghost use Rattle.logic_terms.specs.Levels.{levels, levels_of};
 ghost use Rattle.logic_terms.specs.Names.{is_constant as constant};
 
 use crate::names::names_nothing;
-use crate::parts::{FormulaParts, TermParts, formula_parts, term_parts};
-use crate::syntax::{Formula, Term, TermList};
+use crate::node::{Leaf, NodeParts, NodeRef, node_parts};
+use crate::syntax::{Formula, TermList};
 
 #[cycle(levels)]
 fn terms_levels(ts: &TermList) -> u64
@@ -15,41 +16,25 @@ fn terms_levels(ts: &TermList) -> u64
 {
     let mut most = 0;
     for t in ts.as_slice() {
-        most = term_levels(t).max(most);
+        most = node_levels(NodeRef::Term(t)).max(most);
     }
     most
 }
 
-/// How many quantifiers around a term bind all its variables.
+/// How many quantifiers around a term or a formula bind all its variables.
 #[cycle(levels)]
-fn term_levels(t: &Term) -> u64
-    ensures { result ≡ levels (term t.now) }
+fn node_levels(n: NodeRef) -> u64
+    ensures { result ≡ levels (node_of n.entry) }
 {
-    match term_parts(t) {
-        TermParts::Number(_) | TermParts::Symbol(_) => 0,
-        TermParts::Bound(k) => u64::from(k) + 1,
-        TermParts::Bit(p) => formula_levels(p),
-        TermParts::Choice(p, a, b) => { formula_levels(p).max(term_levels(a).max(term_levels(b))) }
-        TermParts::One(_, a) => term_levels(a),
-        TermParts::Two(_, a, b) => term_levels(a).max(term_levels(b)),
-        TermParts::Three(_, a, b, c) => term_levels(a).max(term_levels(b).max(term_levels(c))),
-        TermParts::List(_, ts) => terms_levels(ts),
-    }
-}
-
-/// How many quantifiers around a formula bind all its variables.
-#[cycle(levels)]
-fn formula_levels(p: &Formula) -> u64
-    ensures { result ≡ levels (formula p.now) }
-{
-    match formula_parts(p) {
-        FormulaParts::Constant(_) => 0,
-        FormulaParts::Truth(t) => term_levels(t),
-        FormulaParts::Compared(_, a, b) => term_levels(a).max(term_levels(b)),
-        FormulaParts::Not(p) => formula_levels(p),
-        FormulaParts::Joined(_, p, q) => formula_levels(p).max(formula_levels(q)),
-        FormulaParts::Quantified(_, first, last, p) => {
-            term_levels(first).max(term_levels(last).max(formula_levels(p).saturating_sub(1)))
+    match node_parts(n) {
+        NodeParts::Leaf(Leaf::Bound(k)) => u64::from(k) + 1,
+        NodeParts::Leaf(_) => 0,
+        NodeParts::One(_, a) => node_levels(a),
+        NodeParts::Two(_, a, b) => node_levels(a).max(node_levels(b)),
+        NodeParts::Three(_, a, b, c) => node_levels(a).max(node_levels(b).max(node_levels(c))),
+        NodeParts::List(_, ts) => terms_levels(ts),
+        NodeParts::Quantified(_, first, last, p) => {
+            node_levels(first).max(node_levels(last).max(node_levels(p).saturating_sub(1)))
         }
     }
 }
@@ -59,5 +44,5 @@ fn formula_levels(p: &Formula) -> u64
 pub fn is_constant(f: &Formula) -> bool
     ensures { result ≡ constant (formula f.now) }
 {
-    names_nothing(f) && formula_levels(f) == 0
+    names_nothing(f) && node_levels(NodeRef::Formula(f)) == 0
 }

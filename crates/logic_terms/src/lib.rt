@@ -11,6 +11,7 @@ mod laws;
 mod model;
 mod names;
 mod nesting;
+mod node;
 mod operators;
 mod parts;
 mod put;
@@ -33,6 +34,7 @@ pub use model::{
 };
 pub use names::names_nothing;
 pub use nesting::MOST_LEVELS;
+pub use node::{BinaryNode, TernaryNode, UnaryNode};
 pub use operators::{
     Arithmetic, BinaryOperator, Comparison, Connective, ListOperator, Quantifier, TernaryOperator,
     UnaryOperator, binary_term, compared, joined, list_term, quantified, ternary_term, unary_term,

@@ -1,19 +1,20 @@
 //! Whether a formula names a symbol or a call.
 
 ghost use Rattle.std.specs.Prelude.{◌≡◌};
-ghost use Rattle.logic_terms.specs.View.{term, formula, terms};
+ghost use Rattle.logic_terms.specs.NodeParts.{node_of};
+ghost use Rattle.logic_terms.specs.View.{formula, terms};
 ghost use Rattle.logic_terms.specs.Names.{names_nothing as no_name, name_nothing as no_names};
 
+use crate::node::{Leaf, NodeParts, NodeRef, node_parts};
 use crate::operators::ListOperator;
-use crate::parts::{FormulaParts, TermParts, formula_parts, term_parts};
-use crate::syntax::{Formula, Term, TermList};
+use crate::syntax::{Formula, TermList};
 
 #[cycle(names)]
 fn terms_name_nothing(ts: &TermList) -> bool
     ensures { result ≡ no_names (terms ts.now) }
 {
     for t in ts.as_slice() {
-        if !term_names_nothing(t) {
+        if !node_names_nothing(NodeRef::Term(t)) {
             return false;
         }
     }
@@ -21,39 +22,25 @@ fn terms_name_nothing(ts: &TermList) -> bool
 }
 
 #[cycle(names)]
-fn term_names_nothing(t: &Term) -> bool
-    ensures { result ≡ no_name (term t.now) }
+fn node_names_nothing(n: NodeRef) -> bool
+    ensures { result ≡ no_name (node_of n.entry) }
 {
-    match term_parts(t) {
-        TermParts::Number(_) | TermParts::Bound(_) => true,
-        TermParts::Symbol(_) => false,
-        TermParts::Bit(p) => names_nothing(p),
-        TermParts::Choice(p, a, b) => {
-            names_nothing(p) && term_names_nothing(a) && term_names_nothing(b)
+    match node_parts(n) {
+        NodeParts::Leaf(Leaf::Symbol(_)) => false,
+        NodeParts::Leaf(_) => true,
+        NodeParts::One(_, a) => node_names_nothing(a),
+        NodeParts::Two(_, a, b) => node_names_nothing(a) && node_names_nothing(b),
+        NodeParts::Three(_, a, b, c) | NodeParts::Quantified(_, a, b, c) => {
+            node_names_nothing(a) && node_names_nothing(b) && node_names_nothing(c)
         }
-        TermParts::One(_, a) => term_names_nothing(a),
-        TermParts::Two(_, a, b) => term_names_nothing(a) && term_names_nothing(b),
-        TermParts::Three(_, a, b, c) => {
-            term_names_nothing(a) && term_names_nothing(b) && term_names_nothing(c)
-        }
-        TermParts::List(ListOperator::Record, ts) => terms_name_nothing(ts),
-        TermParts::List(ListOperator::Call(_), _) => false,
+        NodeParts::List(ListOperator::Record, ts) => terms_name_nothing(ts),
+        NodeParts::List(ListOperator::Call(_), _) => false,
     }
 }
 
 /// Whether a formula has no symbol and no call.
-#[cycle(names)]
 pub fn names_nothing(p: &Formula) -> bool
     ensures { result ≡ no_name (formula p.now) }
 {
-    match formula_parts(p) {
-        FormulaParts::Constant(_) => true,
-        FormulaParts::Truth(t) => term_names_nothing(t),
-        FormulaParts::Compared(_, a, b) => term_names_nothing(a) && term_names_nothing(b),
-        FormulaParts::Not(p) => names_nothing(p),
-        FormulaParts::Joined(_, p, q) => names_nothing(p) && names_nothing(q),
-        FormulaParts::Quantified(_, first, last, p) => {
-            term_names_nothing(first) && term_names_nothing(last) && names_nothing(p)
-        }
-    }
+    node_names_nothing(NodeRef::Formula(p))
 }

@@ -1,14 +1,17 @@
 //! Negation, and a term in place of a variable.
 
 ghost use Rattle.std.specs.Prelude.{◌≡◌, IfOk, suc};
+ghost use Rattle.logic_terms.specs.Node.{ite, op2, op3, quant};
+ghost use Rattle.logic_terms.specs.Operators.{binary_of, comparison_of, connective_of, quantifier_of, ternary_of};
 ghost use Rattle.logic_terms.specs.View.{term, formula, terms};
 ghost use Rattle.logic_terms.specs.Binding.{negated, put, puts};
 
 use crate::Starved;
-use crate::copy::{copy_formula, copy_term, push_term};
+use crate::copy::{boxed_formula, copy_term, push_term};
 use crate::nesting::{MOST_LEVELS, below};
 use crate::operators::{
-    binary_term, compared, joined, list_term, quantified, ternary_term, unary_term,
+    BinaryOperator, Comparison, Connective, Quantifier, TernaryOperator, binary_term, compared,
+    joined, list_term, quantified, ternary_term, unary_term,
 };
 use crate::parts::{FormulaParts, TermParts, formula_parts, term_parts};
 use crate::syntax::{Formula, Term, TermList};
@@ -19,12 +22,9 @@ use std::alloc::Global;
 pub fn negate(alloc: Global, f: &Formula) -> Result<Formula, Starved>
     ensures { IfOk result (λ r. formula r ≡ negated (formula f.now)) }
 {
-    match f {
-        Formula::Not(p) => p.get().copy(alloc),
-        _ => {
-            let copy = copy_formula(alloc, f, MOST_LEVELS - 1)?;
-            Ok(Formula::Not(Boxed::new(alloc, copy)?))
-        }
+    match formula_parts(f) {
+        FormulaParts::Not(p) => p.copy(alloc),
+        _ => Ok(Formula::Not(boxed_formula(alloc, f, MOST_LEVELS)?)),
     }
 }
 
@@ -84,6 +84,42 @@ impl<'a> Putting<'a> {
     }
 
     #[cycle(put)]
+    fn choice(&self, p: &Formula, a: &Term, b: &Term, left: u32) -> Result<Term, Starved>
+        ensures { IfOk result (λ r. term r ≡ put (term self.now.replacement.now) self.now.variable (op3 ite (formula p.now) (term a.now) (term b.now))) }
+    {
+        let p = self.formula_in(p, left)?;
+        let a = self.term_in(a, left)?;
+        let b = self.term_in(b, left)?;
+        Ok(Term::Ite(p, a, b))
+    }
+
+    #[cycle(put)]
+    fn two(&self, op: BinaryOperator, a: &Term, b: &Term, left: u32) -> Result<Term, Starved>
+        ensures { IfOk result (λ r. term r ≡ put (term self.now.replacement.now) self.now.variable (op2 (binary_of op) (term a.now) (term b.now))) }
+    {
+        let a = self.term_in(a, left)?;
+        let b = self.term_in(b, left)?;
+        Ok(binary_term(op, a, b))
+    }
+
+    #[cycle(put)]
+    fn three(
+        &self,
+        op: TernaryOperator,
+        a: &Term,
+        b: &Term,
+        c: &Term,
+        left: u32,
+    ) -> Result<Term, Starved>
+        ensures { IfOk result (λ r. term r ≡ put (term self.now.replacement.now) self.now.variable (op3 (ternary_of op) (term a.now) (term b.now) (term c.now))) }
+    {
+        let a = self.term_in(a, left)?;
+        let b = self.term_in(b, left)?;
+        let c = self.term_in(c, left)?;
+        Ok(ternary_term(op, a, b, c))
+    }
+
+    #[cycle(put)]
     fn term(&self, a: &Term, left: u32) -> Result<Term, Starved>
         ensures { IfOk result (λ r. term r ≡ put (term self.now.replacement.now) self.now.variable (term a.now)) }
     {
@@ -98,25 +134,53 @@ impl<'a> Putting<'a> {
                 }
             }
             TermParts::Bit(p) => Ok(Term::Bit(self.formula_in(p, left)?)),
-            TermParts::Choice(p, b, c) => Ok(Term::Ite(
-                self.formula_in(p, left)?,
-                self.term_in(b, left)?,
-                self.term_in(c, left)?,
-            )),
+            TermParts::Choice(p, b, c) => self.choice(p, b, c, left),
             TermParts::One(op, b) => Ok(unary_term(op, self.term_in(b, left)?)),
-            TermParts::Two(op, b, c) => Ok(binary_term(
-                op,
-                self.term_in(b, left)?,
-                self.term_in(c, left)?,
-            )),
-            TermParts::Three(op, b, c, d) => Ok(ternary_term(
-                op,
-                self.term_in(b, left)?,
-                self.term_in(c, left)?,
-                self.term_in(d, left)?,
-            )),
+            TermParts::Two(op, b, c) => self.two(op, b, c, left),
+            TermParts::Three(op, b, c, d) => self.three(op, b, c, d, left),
             TermParts::List(op, ts) => Ok(list_term(op, self.terms_in(ts, left)?)),
         }
+    }
+
+    #[cycle(put)]
+    fn compared(&self, op: Comparison, a: &Term, b: &Term, left: u32) -> Result<Formula, Starved>
+        ensures { IfOk result (λ r. formula r ≡ put (term self.now.replacement.now) self.now.variable (op2 (comparison_of op) (term a.now) (term b.now))) }
+    {
+        let a = self.term_in(a, left)?;
+        let b = self.term_in(b, left)?;
+        Ok(compared(op, a, b))
+    }
+
+    #[cycle(put)]
+    fn joined(
+        &self,
+        op: Connective,
+        p: &Formula,
+        q: &Formula,
+        left: u32,
+    ) -> Result<Formula, Starved>
+        ensures { IfOk result (λ r. formula r ≡ put (term self.now.replacement.now) self.now.variable (op2 (connective_of op) (formula p.now) (formula q.now))) }
+    {
+        let p = self.formula_in(p, left)?;
+        let q = self.formula_in(q, left)?;
+        Ok(joined(op, p, q))
+    }
+
+    #[cycle(put)]
+    fn quantified(
+        &self,
+        op: Quantifier,
+        first: &Term,
+        last: &Term,
+        p: &Formula,
+        left: u32,
+    ) -> Result<Formula, Starved>
+        ensures { IfOk result (λ r. formula r ≡ put (term self.now.replacement.now) self.now.variable (quant (quantifier_of op) (term first.now) (term last.now) (formula p.now))) }
+    {
+        let first = self.term_in(first, left)?;
+        let last = self.term_in(last, left)?;
+        let p = self.body(p, left)?;
+        Ok(quantified(op, first, last, p))
     }
 
     #[cycle(put)]
@@ -127,23 +191,12 @@ impl<'a> Putting<'a> {
             FormulaParts::Constant(true) => Ok(Formula::True),
             FormulaParts::Constant(false) => Ok(Formula::False),
             FormulaParts::Truth(a) => Ok(Formula::Tru(self.term_in(a, left)?)),
-            FormulaParts::Compared(op, a, b) => Ok(compared(
-                op,
-                self.term_in(a, left)?,
-                self.term_in(b, left)?,
-            )),
+            FormulaParts::Compared(op, a, b) => self.compared(op, a, b, left),
             FormulaParts::Not(q) => Ok(Formula::Not(self.formula_in(q, left)?)),
-            FormulaParts::Joined(op, q, r) => Ok(joined(
-                op,
-                self.formula_in(q, left)?,
-                self.formula_in(r, left)?,
-            )),
-            FormulaParts::Quantified(op, first, last, q) => Ok(quantified(
-                op,
-                self.term_in(first, left)?,
-                self.term_in(last, left)?,
-                self.body(q, left)?,
-            )),
+            FormulaParts::Joined(op, q, r) => self.joined(op, q, r, left),
+            FormulaParts::Quantified(op, first, last, q) => {
+                self.quantified(op, first, last, q, left)
+            }
         }
     }
 }

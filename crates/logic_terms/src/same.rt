@@ -1,15 +1,16 @@
 //! Whether two terms or formulas are the same node.
 
 ghost use Rattle.std.specs.Prelude.{◌≡◌};
+ghost use Rattle.logic_terms.specs.NodeParts.{leaf_of, node_of, op1_of, op2_of, op3_of};
 ghost use Rattle.logic_terms.specs.Operators.{arith_of, binary_of, comparison_of, connective_of, list_of, quantifier_of, ternary_of, unary_of};
-ghost use Rattle.logic_terms.specs.Same.{arith_number, same_node, same_nodes, same_op1, same_op2, same_op3, same_opn, same_quant};
+ghost use Rattle.logic_terms.specs.Same.{arith_number, same_node as are_same, same_nodes, same_op1, same_op2, same_op3, same_opn, same_quant};
 ghost use Rattle.logic_terms.specs.View.{formula, term, terms};
 
+use crate::node::{BinaryNode, Leaf, NodeParts, NodeRef, TernaryNode, UnaryNode, node_parts};
 use crate::operators::{
     Arithmetic, BinaryOperator, Comparison, Connective, ListOperator, Quantifier, TernaryOperator,
     UnaryOperator,
 };
-use crate::parts::{FormulaParts, TermParts, formula_parts, term_parts};
 use crate::syntax::{Formula, Term, TermList};
 
 /// The number of an operation; each has its own.
@@ -102,6 +103,51 @@ fn same_quantifier(x: Quantifier, y: Quantifier) -> bool
     }
 }
 
+fn same_leaf(x: Leaf, y: Leaf) -> bool
+    ensures { result ≡ are_same (leaf_of x) (leaf_of y) }
+{
+    match (x, y) {
+        (Leaf::Number(m), Leaf::Number(n)) => m == n,
+        (Leaf::Constant(p), Leaf::Constant(q)) => p == q,
+        (Leaf::Symbol(j), Leaf::Symbol(k)) => j == k,
+        (Leaf::Bound(j), Leaf::Bound(k)) => j == k,
+        _ => false,
+    }
+}
+
+fn same_unary_node(x: UnaryNode, y: UnaryNode) -> bool
+    ensures { result ≡ same_op1 (op1_of x) (op1_of y) }
+{
+    match (x, y) {
+        (UnaryNode::Bit, UnaryNode::Bit) => true,
+        (UnaryNode::Truth, UnaryNode::Truth) => true,
+        (UnaryNode::Not, UnaryNode::Not) => true,
+        (UnaryNode::Term(o), UnaryNode::Term(q)) => same_unary(o, q),
+        _ => false,
+    }
+}
+
+fn same_binary_node(x: BinaryNode, y: BinaryNode) -> bool
+    ensures { result ≡ same_op2 (op2_of x) (op2_of y) }
+{
+    match (x, y) {
+        (BinaryNode::Term(o), BinaryNode::Term(q)) => same_binary(o, q),
+        (BinaryNode::Compared(o), BinaryNode::Compared(q)) => same_comparison(o, q),
+        (BinaryNode::Joined(o), BinaryNode::Joined(q)) => same_connective(o, q),
+        _ => false,
+    }
+}
+
+fn same_ternary_node(x: TernaryNode, y: TernaryNode) -> bool
+    ensures { result ≡ same_op3 (op3_of x) (op3_of y) }
+{
+    match (x, y) {
+        (TernaryNode::Choice, TernaryNode::Choice) => true,
+        (TernaryNode::Term(o), TernaryNode::Term(q)) => same_ternary(o, q),
+        _ => false,
+    }
+}
+
 #[cycle(same)]
 fn same_terms(a: &TermList, b: &TermList) -> bool
     ensures { result ≡ same_nodes (terms a.now) (terms b.now) }
@@ -110,58 +156,49 @@ fn same_terms(a: &TermList, b: &TermList) -> bool
         return false;
     }
     for i in 0..a.len() {
-        if !same_term(&a.as_slice()[i], &b.as_slice()[i]) {
+        if !same_node(
+            NodeRef::Term(&a.as_slice()[i]),
+            NodeRef::Term(&b.as_slice()[i]),
+        ) {
             return false;
         }
     }
     true
 }
 
-/// Whether two terms are the same.
 #[cycle(same)]
-pub fn same_term(a: &Term, b: &Term) -> bool
-    ensures { result ≡ same_node (term a.now) (term b.now) }
+fn same_node(a: NodeRef, b: NodeRef) -> bool
+    ensures { result ≡ are_same (node_of a.entry) (node_of b.entry) }
 {
-    match (term_parts(a), term_parts(b)) {
-        (TermParts::Number(m), TermParts::Number(n)) => m == n,
-        (TermParts::Symbol(j), TermParts::Symbol(k)) => j == k,
-        (TermParts::Bound(j), TermParts::Bound(k)) => j == k,
-        (TermParts::Bit(p), TermParts::Bit(q)) => same_formula(p, q),
-        (TermParts::Choice(p, x, y), TermParts::Choice(q, u, v)) => {
-            same_formula(p, q) && same_term(x, u) && same_term(y, v)
+    match (node_parts(a), node_parts(b)) {
+        (NodeParts::Leaf(x), NodeParts::Leaf(y)) => same_leaf(x, y),
+        (NodeParts::One(o, x), NodeParts::One(q, u)) => same_unary_node(o, q) && same_node(x, u),
+        (NodeParts::Two(o, x, y), NodeParts::Two(q, u, v)) => {
+            same_binary_node(o, q) && same_node(x, u) && same_node(y, v)
         }
-        (TermParts::One(o, x), TermParts::One(q, u)) => same_unary(o, q) && same_term(x, u),
-        (TermParts::Two(o, x, y), TermParts::Two(q, u, v)) => {
-            same_binary(o, q) && same_term(x, u) && same_term(y, v)
+        (NodeParts::Three(o, x, y, z), NodeParts::Three(q, u, v, w)) => {
+            same_ternary_node(o, q) && same_node(x, u) && same_node(y, v) && same_node(z, w)
         }
-        (TermParts::Three(o, x, y, z), TermParts::Three(q, u, v, w)) => {
-            same_ternary(o, q) && same_term(x, u) && same_term(y, v) && same_term(z, w)
-        }
-        (TermParts::List(o, xs), TermParts::List(q, us)) => {
+        (NodeParts::List(o, xs), NodeParts::List(q, us)) => {
             same_list(o, q) && same_terms(xs, us)
+        }
+        (NodeParts::Quantified(o, x, y, z), NodeParts::Quantified(q, u, v, w)) => {
+            same_quantifier(o, q) && same_node(x, u) && same_node(y, v) && same_node(z, w)
         }
         _ => false,
     }
 }
 
-/// Whether two formulas are the same.
-#[cycle(same)]
-pub fn same_formula(a: &Formula, b: &Formula) -> bool
-    ensures { result ≡ same_node (formula a.now) (formula b.now) }
+/// Whether two terms are the same.
+pub fn same_term(a: &Term, b: &Term) -> bool
+    ensures { result ≡ are_same (term a.now) (term b.now) }
 {
-    match (formula_parts(a), formula_parts(b)) {
-        (FormulaParts::Constant(x), FormulaParts::Constant(y)) => x == y,
-        (FormulaParts::Truth(x), FormulaParts::Truth(y)) => same_term(x, y),
-        (FormulaParts::Compared(o, x, y), FormulaParts::Compared(q, u, v)) => {
-            same_comparison(o, q) && same_term(x, u) && same_term(y, v)
-        }
-        (FormulaParts::Not(x), FormulaParts::Not(y)) => same_formula(x, y),
-        (FormulaParts::Joined(o, x, y), FormulaParts::Joined(q, u, v)) => {
-            same_connective(o, q) && same_formula(x, u) && same_formula(y, v)
-        }
-        (FormulaParts::Quantified(o, x, y, z), FormulaParts::Quantified(q, u, v, w)) => {
-            same_quantifier(o, q) && same_term(x, u) && same_term(y, v) && same_formula(z, w)
-        }
-        _ => false,
-    }
+    same_node(NodeRef::Term(a), NodeRef::Term(b))
+}
+
+/// Whether two formulas are the same.
+pub fn same_formula(a: &Formula, b: &Formula) -> bool
+    ensures { result ≡ are_same (formula a.now) (formula b.now) }
+{
+    same_node(NodeRef::Formula(a), NodeRef::Formula(b))
 }

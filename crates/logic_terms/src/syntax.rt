@@ -10,7 +10,6 @@ pub type FormulaList = Items<Formula>;
 
 /// A term. A bound variable is numbered outwards from the nearest quantifier, from 0.
 #[cycle(logic)]
-#[derive(Drop)]
 pub enum Term {
     /// A whole number.
     Num(i128),
@@ -56,9 +55,43 @@ pub enum Term {
     Call(u32, TermList),
 }
 
+impl Drop for Term {
+    #[cycle(logic_drop)]
+    fn drop(self) {
+        match self {
+            Term::Num(_) => {}
+            Term::Sym(_) | Term::Bound(_) => {}
+            Term::Fst(a) | Term::Lst(a) | Term::Fld(_, a) => drop(a),
+            Term::Bit(p) => drop(p),
+            Term::Add(a, b)
+            | Term::Sub(a, b)
+            | Term::Mul(a, b)
+            | Term::Quo(a, b)
+            | Term::Rem(a, b)
+            | Term::Mod(a, b)
+            | Term::Pow(a, b)
+            | Term::Sel(a, b)
+            | Term::Upd(_, a, b) => {
+                drop(a);
+                drop(b);
+            }
+            Term::Sto(a, b, c) | Term::Fill(a, b, c) => {
+                drop(a);
+                drop(b);
+                drop(c);
+            }
+            Term::Ite(p, a, b) => {
+                drop(p);
+                drop(a);
+                drop(b);
+            }
+            Term::Rec(ts) | Term::Call(_, ts) => drop(ts),
+        }
+    }
+}
+
 /// A formula.
 #[cycle(logic)]
-#[derive(Drop)]
 pub enum Formula {
     /// `T`.
     True,
@@ -82,4 +115,29 @@ pub enum Formula {
     All(Boxed<Term>, Boxed<Term>, Boxed<Formula>),
     /// `(any t t F)`, for some whole number between the two bounds.
     Any(Boxed<Term>, Boxed<Term>, Boxed<Formula>),
+}
+
+impl Drop for Formula {
+    #[cycle(logic_drop)]
+    fn drop(self) {
+        match self {
+            Formula::True => {}
+            Formula::False => {}
+            Formula::Tru(t) => drop(t),
+            Formula::Not(p) => drop(p),
+            Formula::Le(a, b) | Formula::Eq(a, b) => {
+                drop(a);
+                drop(b);
+            }
+            Formula::And(p, q) | Formula::Or(p, q) | Formula::Iff(p, q) => {
+                drop(p);
+                drop(q);
+            }
+            Formula::All(first, last, p) | Formula::Any(first, last, p) => {
+                drop(first);
+                drop(last);
+                drop(p);
+            }
+        }
+    }
 }

@@ -1,16 +1,17 @@
 //! The texts of terms and formulas, by which variables are ordered.
 
 ghost use Rattle.std.specs.Prelude.{◌≡◌, ◌++◌, IfOk, OnOk, codes};
-ghost use Rattle.logic_terms.specs.Operators.{arith_of, binary_of, comparison_of, connective_of, list_of, quantifier_of, ternary_of, unary_of};
+ghost use Rattle.logic_terms.specs.NodeParts.{leaf_of, node_of, op1_of, op2_of, op3_of};
+ghost use Rattle.logic_terms.specs.Operators.{arith_of, comparison_of, connective_of, list_of, quantifier_of};
 ghost use Rattle.logic_terms.specs.View.{term, formula, terms};
-ghost use Rattle.logic_terms.specs.Text.{arith_text, node_text, number_text, op1_text, op2_text, op3_text, opn_text, precedes as lesser, quant_text, spaced_text, whole_text};
+ghost use Rattle.logic_terms.specs.Text.{arith_text, is_less as is_lesser, node_text, number_text, op1_text, op2_text, op3_text, opn_text, precedes as lesser, quant_text, spaced_text, whole_text};
 
 use crate::Starved;
+use crate::node::{BinaryNode, Leaf, NodeParts, NodeRef, TernaryNode, UnaryNode, node_parts};
 use crate::operators::{
     Arithmetic, BinaryOperator, Comparison, Connective, ListOperator, Quantifier, TernaryOperator,
     UnaryOperator,
 };
-use crate::parts::{FormulaParts, TermParts, formula_parts, term_parts};
 use crate::syntax::{Formula, Term, TermList};
 use std::alloc::Global;
 use std::cmp::Ordering;
@@ -57,12 +58,13 @@ fn arithmetic_name(op: Arithmetic) -> &'static str
     }
 }
 
-fn ternary_name(op: TernaryOperator) -> &'static str
-    ensures { result.now ≡ op3_text (ternary_of op) }
+fn ternary_name(op: TernaryNode) -> &'static str
+    ensures { result.now ≡ op3_text (op3_of op) }
 {
     match op {
-        TernaryOperator::Store => "sto",
-        TernaryOperator::Fill => "fill",
+        TernaryNode::Choice => "ite",
+        TernaryNode::Term(TernaryOperator::Store) => "sto",
+        TernaryNode::Term(TernaryOperator::Fill) => "fill",
     }
 }
 
@@ -103,27 +105,38 @@ fn open(text: &mut Vec<u8>, name: &str) -> Result<(), Starved>
     text.extend_from_slice(name.as_bytes())
 }
 
-/// Adds a bracket and the operator of one operand.
-fn open_unary(alloc: Global, text: &mut Vec<u8>, op: UnaryOperator) -> Result<(), Starved>
-    ensures { OnOk result (text.new.items ≡ text.old.items ++ codes "(" ++ op1_text (unary_of op)) }
+/// Adds a bracket and a name with a number after it.
+fn open_numbered(alloc: Global, text: &mut Vec<u8>, name: &str, number: u32) -> Result<(), Starved>
+    ensures { OnOk result (text.new.items ≡ text.old.items ++ codes "(" ++ (name.now ++ number_text number)) }
 {
-    text.extend_from_slice(b"(")?;
+    open(text, name)?;
+    push_number(alloc, text, u64::from(number))
+}
+
+/// Adds a bracket and the operator of one operand.
+fn open_unary(alloc: Global, text: &mut Vec<u8>, op: UnaryNode) -> Result<(), Starved>
+    ensures { OnOk result (text.new.items ≡ text.old.items ++ codes "(" ++ op1_text (op1_of op)) }
+{
     match op {
-        UnaryOperator::First => text.extend_from_slice(b"fst"),
-        UnaryOperator::Last => text.extend_from_slice(b"lst"),
-        UnaryOperator::Field(k) => push_numbered(alloc, text, "fld ", k),
+        UnaryNode::Bit => open(text, "bit"),
+        UnaryNode::Truth => open(text, "tru"),
+        UnaryNode::Not => open(text, "not"),
+        UnaryNode::Term(UnaryOperator::First) => open(text, "fst"),
+        UnaryNode::Term(UnaryOperator::Last) => open(text, "lst"),
+        UnaryNode::Term(UnaryOperator::Field(k)) => open_numbered(alloc, text, "fld ", k),
     }
 }
 
 /// Adds a bracket and the operator of two operands.
-fn open_binary(alloc: Global, text: &mut Vec<u8>, op: BinaryOperator) -> Result<(), Starved>
-    ensures { OnOk result (text.new.items ≡ text.old.items ++ codes "(" ++ op2_text (binary_of op)) }
+fn open_binary(alloc: Global, text: &mut Vec<u8>, op: BinaryNode) -> Result<(), Starved>
+    ensures { OnOk result (text.new.items ≡ text.old.items ++ codes "(" ++ op2_text (op2_of op)) }
 {
-    text.extend_from_slice(b"(")?;
     match op {
-        BinaryOperator::Compute(o) => text.extend_from_slice(arithmetic_name(o).as_bytes()),
-        BinaryOperator::Select => text.extend_from_slice(b"sel"),
-        BinaryOperator::Update(k) => push_numbered(alloc, text, "upd ", k),
+        BinaryNode::Term(BinaryOperator::Compute(o)) => open(text, arithmetic_name(o)),
+        BinaryNode::Term(BinaryOperator::Select) => open(text, "sel"),
+        BinaryNode::Term(BinaryOperator::Update(k)) => open_numbered(alloc, text, "upd ", k),
+        BinaryNode::Compared(o) => open(text, comparison_name(o)),
+        BinaryNode::Joined(o) => open(text, connective_name(o)),
     }
 }
 
@@ -131,29 +144,32 @@ fn open_binary(alloc: Global, text: &mut Vec<u8>, op: BinaryOperator) -> Result<
 fn open_list(alloc: Global, text: &mut Vec<u8>, op: ListOperator) -> Result<(), Starved>
     ensures { OnOk result (text.new.items ≡ text.old.items ++ codes "(" ++ opn_text (list_of op)) }
 {
-    text.extend_from_slice(b"(")?;
     match op {
-        ListOperator::Record => text.extend_from_slice(b"rec"),
-        ListOperator::Call(k) => push_numbered(alloc, text, "call ", k),
+        ListOperator::Record => open(text, "rec"),
+        ListOperator::Call(k) => open_numbered(alloc, text, "call ", k),
     }
 }
 
-/// Adds a space and a term.
-#[cycle(text)]
-pub fn push_spaced_term(alloc: Global, text: &mut Vec<u8>, t: &Term) -> Result<(), Starved>
-    ensures { OnOk result (text.new.items ≡ text.old.items ++ (codes " " ++ node_text (term t.now))) }
+/// Adds a node without operands.
+fn push_leaf(alloc: Global, text: &mut Vec<u8>, leaf: Leaf) -> Result<(), Starved>
+    ensures { OnOk result (text.new.items ≡ text.old.items ++ node_text (leaf_of leaf)) }
 {
-    text.extend_from_slice(b" ")?;
-    push_term(alloc, text, t)
+    match leaf {
+        Leaf::Number(n) => push_whole(alloc, text, n),
+        Leaf::Constant(true) => text.extend_from_slice(b"T"),
+        Leaf::Constant(false) => text.extend_from_slice(b"F"),
+        Leaf::Symbol(k) => push_numbered(alloc, text, "s", k),
+        Leaf::Bound(k) => push_numbered(alloc, text, "b", k),
+    }
 }
 
-/// Adds a space and a formula.
+/// Adds a space and a term or a formula.
 #[cycle(text)]
-pub fn push_spaced_formula(alloc: Global, text: &mut Vec<u8>, p: &Formula) -> Result<(), Starved>
-    ensures { OnOk result (text.new.items ≡ text.old.items ++ (codes " " ++ node_text (formula p.now))) }
+fn push_spaced(alloc: Global, text: &mut Vec<u8>, n: NodeRef) -> Result<(), Starved>
+    ensures { OnOk result (text.new.items ≡ text.old.items ++ (codes " " ++ node_text (node_of n.entry))) }
 {
     text.extend_from_slice(b" ")?;
-    push_formula(alloc, text, p)
+    push_node(alloc, text, n)
 }
 
 /// Adds terms, each with a space before it, and a bracket.
@@ -162,108 +178,93 @@ fn push_last_terms(alloc: Global, text: &mut Vec<u8>, ts: &TermList) -> Result<(
     ensures { OnOk result (text.new.items ≡ text.old.items ++ spaced_text (terms ts.now) ++ codes ")") }
 {
     for t in ts.as_slice() {
-        push_spaced_term(alloc, text, t)?;
+        push_spaced(alloc, text, NodeRef::Term(t))?;
     }
     text.extend_from_slice(b")")
 }
 
 /// Adds the last operand and a bracket.
 #[cycle(text)]
-fn push_last(alloc: Global, text: &mut Vec<u8>, t: &Term) -> Result<(), Starved>
-    ensures { OnOk result (text.new.items ≡ text.old.items ++ (codes " " ++ node_text (term t.now)) ++ codes ")") }
+fn push_last(alloc: Global, text: &mut Vec<u8>, a: NodeRef) -> Result<(), Starved>
+    ensures { OnOk result (text.new.items ≡ text.old.items ++ (codes " " ++ node_text (node_of a.entry)) ++ codes ")") }
 {
-    push_spaced_term(alloc, text, t)?;
+    push_spaced(alloc, text, a)?;
     text.extend_from_slice(b")")
 }
 
 /// Adds the last two operands and a bracket.
 #[cycle(text)]
-fn push_last_two(alloc: Global, text: &mut Vec<u8>, a: &Term, b: &Term) -> Result<(), Starved>
-    ensures { OnOk result (text.new.items ≡ text.old.items ++ (codes " " ++ node_text (term a.now)) ++ (codes " " ++ node_text (term b.now)) ++ codes ")") }
+fn push_last_two(alloc: Global, text: &mut Vec<u8>, a: NodeRef, b: NodeRef) -> Result<(), Starved>
+    ensures { OnOk result (text.new.items ≡ text.old.items ++ (codes " " ++ node_text (node_of a.entry)) ++ (codes " " ++ node_text (node_of b.entry)) ++ codes ")") }
 {
-    push_spaced_term(alloc, text, a)?;
+    push_spaced(alloc, text, a)?;
     push_last(alloc, text, b)
 }
 
-/// Adds a formula as the last operand and a bracket.
+/// Adds three operands and a bracket.
 #[cycle(text)]
-fn push_last_formula(alloc: Global, text: &mut Vec<u8>, p: &Formula) -> Result<(), Starved>
-    ensures { OnOk result (text.new.items ≡ text.old.items ++ (codes " " ++ node_text (formula p.now)) ++ codes ")") }
+fn push_last_three(
+    alloc: Global,
+    text: &mut Vec<u8>,
+    a: NodeRef,
+    b: NodeRef,
+    c: NodeRef,
+) -> Result<(), Starved>
+    ensures { OnOk result (text.new.items ≡ text.old.items ++ (codes " " ++ node_text (node_of a.entry)) ++ (codes " " ++ node_text (node_of b.entry)) ++ (codes " " ++ node_text (node_of c.entry)) ++ codes ")") }
 {
-    push_spaced_formula(alloc, text, p)?;
-    text.extend_from_slice(b")")
+    push_spaced(alloc, text, a)?;
+    push_last_two(alloc, text, b, c)
 }
 
-/// Adds a term.
+/// Adds a term or a formula.
 #[cycle(text)]
-fn push_term(alloc: Global, text: &mut Vec<u8>, t: &Term) -> Result<(), Starved>
-    ensures { OnOk result (text.new.items ≡ text.old.items ++ node_text (term t.now)) }
+fn push_node(alloc: Global, text: &mut Vec<u8>, n: NodeRef) -> Result<(), Starved>
+    ensures { OnOk result (text.new.items ≡ text.old.items ++ node_text (node_of n.entry)) }
 {
-    match term_parts(t) {
-        TermParts::Number(n) => push_whole(alloc, text, n),
-        TermParts::Symbol(k) => push_numbered(alloc, text, "s", k),
-        TermParts::Bound(k) => push_numbered(alloc, text, "b", k),
-        TermParts::Bit(p) => {
-            open(text, "bit")?;
-            push_last_formula(alloc, text, p)
-        }
-        TermParts::Choice(p, a, b) => {
-            open(text, "ite")?;
-            push_spaced_formula(alloc, text, p)?;
-            push_last_two(alloc, text, a, b)
-        }
-        TermParts::One(op, a) => {
+    match node_parts(n) {
+        NodeParts::Leaf(leaf) => push_leaf(alloc, text, leaf),
+        NodeParts::One(op, a) => {
             open_unary(alloc, text, op)?;
             push_last(alloc, text, a)
         }
-        TermParts::Two(op, a, b) => {
+        NodeParts::Two(op, a, b) => {
             open_binary(alloc, text, op)?;
             push_last_two(alloc, text, a, b)
         }
-        TermParts::Three(op, a, b, c) => {
+        NodeParts::Three(op, a, b, c) => {
             open(text, ternary_name(op))?;
-            push_spaced_term(alloc, text, a)?;
-            push_last_two(alloc, text, b, c)
+            push_last_three(alloc, text, a, b, c)
         }
-        TermParts::List(op, ts) => {
+        NodeParts::List(op, ts) => {
             open_list(alloc, text, op)?;
             push_last_terms(alloc, text, ts)
+        }
+        NodeParts::Quantified(op, first, last, p) => {
+            open(text, quantifier_name(op))?;
+            push_last_three(alloc, text, first, last, p)
         }
     }
 }
 
+/// Adds a space and a term.
+pub fn push_spaced_term(alloc: Global, text: &mut Vec<u8>, t: &Term) -> Result<(), Starved>
+    ensures { OnOk result (text.new.items ≡ text.old.items ++ (codes " " ++ node_text (term t.now))) }
+{
+    push_spaced(alloc, text, NodeRef::Term(t))
+}
+
+/// Adds a space and a formula.
+pub fn push_spaced_formula(alloc: Global, text: &mut Vec<u8>, p: &Formula) -> Result<(), Starved>
+    ensures { OnOk result (text.new.items ≡ text.old.items ++ (codes " " ++ node_text (formula p.now))) }
+{
+    push_spaced(alloc, text, NodeRef::Formula(p))
+}
+
 /// Adds a formula.
-#[cycle(text)]
 pub fn push_formula(alloc: Global, text: &mut Vec<u8>, p: &Formula) -> Result<(), Starved>
     ensures { OnOk result (text.new.items ≡ text.old.items ++ node_text (formula p.now)) }
 {
-    match formula_parts(p) {
-        FormulaParts::Constant(true) => text.extend_from_slice(b"T"),
-        FormulaParts::Constant(false) => text.extend_from_slice(b"F"),
-        FormulaParts::Truth(t) => {
-            open(text, "tru")?;
-            push_last(alloc, text, t)
-        }
-        FormulaParts::Compared(op, a, b) => {
-            open(text, comparison_name(op))?;
-            push_last_two(alloc, text, a, b)
-        }
-        FormulaParts::Not(q) => {
-            open(text, "not")?;
-            push_last_formula(alloc, text, q)
-        }
-        FormulaParts::Joined(op, q, r) => {
-            open(text, connective_name(op))?;
-            push_spaced_formula(alloc, text, q)?;
-            push_last_formula(alloc, text, r)
-        }
-        FormulaParts::Quantified(op, first, last, q) => {
-            open(text, quantifier_name(op))?;
-            push_spaced_term(alloc, text, first)?;
-            push_spaced_term(alloc, text, last)?;
-            push_last_formula(alloc, text, q)
-        }
-    }
+    push_node(alloc, text, NodeRef::Formula(p))
 }
 
 /// The text of a term.
@@ -271,8 +272,17 @@ pub fn text_of(alloc: Global, t: &Term) -> Result<Vec<u8>, Starved>
     ensures { IfOk result (λ text. text.items ≡ node_text (term t.now)) }
 {
     let mut text = Vec::new(alloc);
-    push_term(alloc, &mut text, t)?;
+    push_node(alloc, &mut text, NodeRef::Term(t))?;
     Ok(text)
+}
+
+fn is_less(order: Ordering) -> bool
+    ensures { result ≡ is_lesser order }
+{
+    match order {
+        Ordering::Less => true,
+        Ordering::Equal | Ordering::Greater => false,
+    }
 }
 
 /// Whether the text of the first term is the lesser one, byte by byte.
@@ -281,9 +291,5 @@ pub fn precedes(alloc: Global, a: &Term, b: &Term) -> Result<bool, Starved>
 {
     let first = text_of(alloc, a)?;
     let second = text_of(alloc, b)?;
-    match first.as_slice().cmp(second.as_slice()) {
-        Ordering::Less => Ok(true),
-        Ordering::Equal => Ok(false),
-        Ordering::Greater => Ok(false),
-    }
+    Ok(is_less(first.as_slice().cmp(second.as_slice())))
 }

@@ -1,6 +1,8 @@
 //! The numbers of goals and certificates in memory fit, so that their texts are read back.
 
 ghost use Rattle.std.specs.Prelude.{◌≡◌, true, map};
+ghost use Rattle.logic_terms.specs.Node.{Node, Nodes, op1, op2, op3, opn};
+ghost use Rattle.logic_terms.specs.Operators.{binary_of, comparison_of, connective_of, list_of, ternary_of, unary_of};
 ghost use Rattle.logic_terms.specs.View.{term, formula, terms};
 ghost use Rattle.logic_terms.specs.Goal.{problem};
 ghost use Rattle.cert_lines.specs.View.{step as step_of, line as line_of, lines as lines_of};
@@ -9,7 +11,10 @@ ghost use Rattle.logic_text.specs.Answers.{IsGoal};
 ghost use Rattle.logic_text.specs.Fits.{Every, AreLiterals, IsStep, IsLine, AreLines};
 
 use cert_lines::{Cert, CertLine, CertLines, HintList, StepLine, StepLines};
-use logic_terms::{Formula, FormulaList, Goal, Term, TermList};
+use logic_terms::{
+    BinaryOperator, Comparison, Connective, Formula, FormulaList, FormulaParts, Goal, ListOperator,
+    Term, TermList, TermParts, TernaryOperator, UnaryOperator, formula_parts, term_parts,
+};
 
 /// The number of a symbol, a variable, a field, a call, a line or a form.
 fn index_fits(_index: u32)
@@ -26,6 +31,63 @@ fn count_fits(_count: usize)
     ensures { IsCount _count }
 {}
 
+/// The number of an operator with one operand.
+fn unary_fits(op: UnaryOperator)
+    ensures { (a : Node) → IsTerm a → IsTerm (op1 (unary_of op) a) }
+{
+    match op {
+        UnaryOperator::First | UnaryOperator::Last => (),
+        UnaryOperator::Field(k) => index_fits(k),
+    }
+}
+
+/// The number of an operator with two operands.
+fn binary_fits(op: BinaryOperator)
+    ensures { (a : Node) (b : Node) → IsTerm a → IsTerm b → IsTerm (op2 (binary_of op) a b) }
+{
+    match op {
+        BinaryOperator::Compute(_) | BinaryOperator::Select => (),
+        BinaryOperator::Update(k) => index_fits(k),
+    }
+}
+
+/// An operator with three operands.
+fn ternary_fits(op: TernaryOperator)
+    ensures { (a : Node) (b : Node) (c : Node) → IsTerm a → IsTerm b → IsTerm c → IsTerm (op3 (ternary_of op) a b c) }
+{
+    match op {
+        TernaryOperator::Store | TernaryOperator::Fill => (),
+    }
+}
+
+/// The number of an operator of a list.
+fn list_fits(op: ListOperator)
+    ensures { (ns : Nodes) → are_terms ns ≡ true → IsTerm (opn (list_of op) ns) }
+{
+    match op {
+        ListOperator::Record => (),
+        ListOperator::Call(k) => index_fits(k),
+    }
+}
+
+/// What is said of two terms.
+fn comparison_fits(op: Comparison)
+    ensures { (a : Node) (b : Node) → IsTerm a → IsTerm b → IsFormula (op2 (comparison_of op) a b) }
+{
+    match op {
+        Comparison::AtMost | Comparison::Equal => (),
+    }
+}
+
+/// What joins two formulas.
+fn connective_fits(op: Connective)
+    ensures { (p : Node) (q : Node) → IsFormula p → IsFormula q → IsFormula (op2 (connective_of op) p q) }
+{
+    match op {
+        Connective::And | Connective::Or | Connective::Iff => (),
+    }
+}
+
 #[cycle(fits)]
 fn terms_fit(ts: &TermList)
     ensures { are_terms (terms ts.now) ≡ true }
@@ -39,44 +101,32 @@ fn terms_fit(ts: &TermList)
 fn term_fits(t: &Term)
     ensures { IsTerm (term t.now) }
 {
-    match t {
-        Term::Num(n) => number_fits(*n),
-        Term::Sym(k) | Term::Bound(k) => index_fits(*k),
-        Term::Add(a, b)
-        | Term::Sub(a, b)
-        | Term::Mul(a, b)
-        | Term::Quo(a, b)
-        | Term::Rem(a, b)
-        | Term::Mod(a, b)
-        | Term::Pow(a, b)
-        | Term::Sel(a, b) => {
-            term_fits(a.get());
-            term_fits(b.get());
+    match term_parts(t) {
+        TermParts::Number(n) => number_fits(n),
+        TermParts::Symbol(k) | TermParts::Bound(k) => index_fits(k),
+        TermParts::Bit(p) => formula_fits(p),
+        TermParts::Choice(p, a, b) => {
+            formula_fits(p);
+            term_fits(a);
+            term_fits(b);
         }
-        Term::Bit(p) => formula_fits(p.get()),
-        Term::Ite(p, a, b) => {
-            formula_fits(p.get());
-            term_fits(a.get());
-            term_fits(b.get());
+        TermParts::One(op, a) => {
+            unary_fits(op);
+            term_fits(a);
         }
-        Term::Sto(a, b, c) | Term::Fill(a, b, c) => {
-            term_fits(a.get());
-            term_fits(b.get());
-            term_fits(c.get());
+        TermParts::Two(op, a, b) => {
+            binary_fits(op);
+            term_fits(a);
+            term_fits(b);
         }
-        Term::Fst(a) | Term::Lst(a) => term_fits(a.get()),
-        Term::Rec(ts) => terms_fit(ts),
-        Term::Fld(k, r) => {
-            index_fits(*k);
-            term_fits(r.get());
+        TermParts::Three(op, a, b, c) => {
+            ternary_fits(op);
+            term_fits(a);
+            term_fits(b);
+            term_fits(c);
         }
-        Term::Upd(k, r, v) => {
-            index_fits(*k);
-            term_fits(r.get());
-            term_fits(v.get());
-        }
-        Term::Call(k, ts) => {
-            index_fits(*k);
+        TermParts::List(op, ts) => {
+            list_fits(op);
             terms_fit(ts);
         }
     }
@@ -87,22 +137,24 @@ fn term_fits(t: &Term)
 pub fn formula_fits(p: &Formula)
     ensures { IsFormula (formula p.now) }
 {
-    match p {
-        Formula::True | Formula::False => (),
-        Formula::Tru(t) => term_fits(t.get()),
-        Formula::Le(a, b) | Formula::Eq(a, b) => {
-            term_fits(a.get());
-            term_fits(b.get());
+    match formula_parts(p) {
+        FormulaParts::Constant(_) => (),
+        FormulaParts::Truth(t) => term_fits(t),
+        FormulaParts::Compared(op, a, b) => {
+            comparison_fits(op);
+            term_fits(a);
+            term_fits(b);
         }
-        Formula::Not(q) => formula_fits(q.get()),
-        Formula::And(q, r) | Formula::Or(q, r) | Formula::Iff(q, r) => {
-            formula_fits(q.get());
-            formula_fits(r.get());
+        FormulaParts::Not(q) => formula_fits(q),
+        FormulaParts::Joined(op, q, r) => {
+            connective_fits(op);
+            formula_fits(q);
+            formula_fits(r);
         }
-        Formula::All(first, last, q) | Formula::Any(first, last, q) => {
-            term_fits(first.get());
-            term_fits(last.get());
-            formula_fits(q.get());
+        FormulaParts::Quantified(_, first, last, q) => {
+            term_fits(first);
+            term_fits(last);
+            formula_fits(q);
         }
     }
 }

@@ -85,24 +85,6 @@ pub fn has_item(v: &Found, at: i128) -> bool
     }
 }
 
-/// The item at an index that the array has.
-fn item_within(v: Found, at: i128) -> Found
-    requires { has (found v) at ≡ true }
-    ensures { found result ≡ item (found v) at }
-{
-    match v {
-        Found::Filled(_, _, item) => item.into_inner(),
-        Found::Stored(a, place, item) => {
-            if place == at {
-                item.into_inner()
-            } else {
-                item_within(a.into_inner(), at)
-            }
-        }
-        other => other,
-    }
-}
-
 #[cycle(default)]
 fn defaults_of(alloc: Global, vs: &FoundList) -> Result<FoundList, Starved>
     ensures { IfOk result (λ r. found_all r ≡ defaults (kinds_of (found_all vs.now))) }
@@ -148,7 +130,7 @@ pub fn select(alloc: Global, v: Found, at: i128) -> Result<Found, Starved>
     ensures { IfOk result (λ r. found r ≡ item (found v) at) }
 {
     if has_item(&v, at) {
-        Ok(item_within(v, at))
+        Ok(v.item_within(at))
     } else {
         outside(alloc, &v)
     }
@@ -167,49 +149,4 @@ pub fn fill(alloc: Global, first: i128, last: i128, item: Found) -> Result<Found
     ensures { IfOk result (λ r. found r ≡ filled first last (found item)) }
 {
     Ok(Found::Filled(first, last, Boxed::new(alloc, item)?))
-}
-
-/// The field of a record, or 0.
-#[tactic(auto, using(logic_terms::proofs::Items::field_stored))]
-pub fn field(k: u32, v: Found) -> Found
-    ensures { found result ≡ field_of k (found v) }
-{
-    match v {
-        Found::Record(mut vs) => {
-            if (k as usize) < vs.len() {
-                vs.remove(k as usize)
-            } else {
-                Found::Num(0)
-            }
-        }
-        Found::Stored(a, _, _) => field(k, a.into_inner()),
-        _ => Found::Num(0),
-    }
-}
-
-/// The fields with another value at a number, where there is one.
-#[tactic(auto, using(crate::proofs::Whole::found_set, crate::proofs::Whole::found_not_set))]
-fn replaced(mut vs: FoundList, k: u32, new: Found) -> FoundList
-    ensures { found_all result ≡ with_value (found_all vs) k (found new) }
-{
-    if (k as usize) < vs.len() {
-        vs.set(k as usize, new);
-        vs
-    } else {
-        vs
-    }
-}
-
-/// The record with another value of a field.
-pub fn with_field(alloc: Global, k: u32, v: Found, new: Found) -> Result<Found, Starved>
-    ensures { IfOk result (λ r. found r ≡ with_field_of k (found v) (found new)) }
-{
-    match v {
-        Found::Record(vs) => Ok(Found::Record(replaced(vs, k, new))),
-        Found::Stored(a, place, item) => {
-            let a = with_field(alloc, k, a.into_inner(), new)?;
-            Ok(Found::Stored(Boxed::new(alloc, a)?, place, item))
-        }
-        other => Ok(other),
-    }
 }

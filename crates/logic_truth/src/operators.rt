@@ -7,7 +7,7 @@ ghost use Rattle.logic_truth.specs.Found.{Finds, found, option_outcome};
 ghost use Rattle.logic_terms.specs.Operators.{arith_of, binary_of, ternary_of, unary_of};
 
 use crate::arithmetic::calculate;
-use crate::arrays::{field, fill, first_of, into_number, last_of, select, store, with_field};
+use crate::arrays::{fill, first_of, into_number, last_of, select, store};
 use crate::found::{Found, TruthFault};
 use logic_terms::{Arithmetic, BinaryOperator, TernaryOperator, UnaryOperator};
 use std::alloc::Global;
@@ -43,7 +43,7 @@ pub fn apply_binary(
     match op {
         BinaryOperator::Compute(op) => compute(op, into_number(x), into_number(y), left),
         BinaryOperator::Select => Ok((select(alloc, x, into_number(y))?, left)),
-        BinaryOperator::Update(k) => Ok((with_field(alloc, k, x, y)?, left)),
+        BinaryOperator::Update(k) => Ok((x.with_field(alloc, k, y)?, left)),
     }
 }
 
@@ -71,6 +71,6 @@ pub fn apply_unary(op: UnaryOperator, x: Found) -> Found
     match op {
         UnaryOperator::First => Found::Num(first_of(&x)),
         UnaryOperator::Last => Found::Num(last_of(&x)),
-        UnaryOperator::Field(k) => field(k, x),
+        UnaryOperator::Field(k) => x.field(k),
     }
 }

@@ -1,37 +1,17 @@
 -- What the reader's operators build.
 use Rattle.std.specs.Prelude.{ℕ}
-use Rattle.logic_terms.specs.Node.{add, sub, mul, quo, rem, mod_by, pow, bit, tru, neg, fst, lst, fld, arith, le, eq, conj, disj, iff, sel, upd, ite, sto, fill, fields, call, all, any}
+use Rattle.logic_terms.specs.Node.{fld, upd, call}
+use Rattle.logic_terms.specs.Operators.{list_of, quantifier_of}
+use Rattle.logic_terms.specs.NodeParts.{op1_of, op2_of, op3_of}
 use Rattle.term_reader.specs.Trees.{Build, one, two, three, many, over, an_array, a_record}
 use Rattle.term_reader.specs.declared.operator.Operator.{Operator}
 
 abbrev pub build : Operator → Build
-build Operator.Add = two (arith add)
-build Operator.Sub = two (arith sub)
-build Operator.Mul = two (arith mul)
-build Operator.Quo = two (arith quo)
-build Operator.Rem = two (arith rem)
-build Operator.Mod = two (arith mod_by)
-build Operator.Pow = two (arith pow)
-build Operator.Bit = one bit
-build Operator.Ite = three ite
-build Operator.Sel = two sel
-build Operator.Sto = three sto
-build Operator.Fst = one fst
-build Operator.Lst = one lst
-build Operator.Fill = three fill
-build Operator.Rec = many fields
-build (Operator.Fld k) = one (fld k)
-build (Operator.Upd k) = two (upd k)
-build (Operator.Call k) = many (call k)
-build Operator.Tru = one tru
-build Operator.Le = two le
-build Operator.Eq = two eq
-build Operator.Not = one neg
-build Operator.And = two conj
-build Operator.Or = two disj
-build Operator.Iff = two iff
-build Operator.All = over all
-build Operator.Any = over any
+build (Operator.One o) = one (op1_of o)
+build (Operator.Two o) = two (op2_of o)
+build (Operator.Three o) = three (op3_of o)
+build (Operator.List o) = many (list_of o)
+build (Operator.Quantified q) = over (quantifier_of q)
 build Operator.Array = an_array
 build Operator.Record = a_record
 

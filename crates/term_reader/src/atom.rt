@@ -13,7 +13,7 @@ use sqlite_items::Boxed;
 use std::alloc::Global;
 
 /// A part without brackets.
-#[derive(Clone, Copy, Debug, PartialEq, Eq)]
+#[derive(Clone, Copy)]
 pub enum Atom {
     /// A whole number.
     Num(i128),

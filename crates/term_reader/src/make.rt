@@ -1,20 +1,25 @@
 //! Terms, formulas and sorts from their parts.
 
 ghost use Rattle.std.specs.Prelude.{◌≡◌, [], ◌∷◌, ◌++◌, map, reverse, IfOk};
-ghost use Rattle.logic_terms.specs.Node.{opn, fields, call};
-ghost use Rattle.logic_terms.specs.View.{term, terms, formula};
+ghost use Rattle.logic_terms.specs.Node.{ite};
+ghost use Rattle.logic_terms.specs.NodeParts.{op1_of, op2_of, op3_of};
+ghost use Rattle.logic_terms.specs.Operators.{binary_of, comparison_of, connective_of, list_of, quantifier_of, ternary_of};
+ghost use Rattle.logic_terms.specs.View.{term};
 ghost use Rattle.logic_terms.specs.Sorts.{sort, kinds_in};
 ghost use Rattle.logic_terms.specs.Value.{records};
-ghost use Rattle.term_reader.specs.Trees.{of_node, of_kind, made};
+ghost use Rattle.term_reader.specs.Trees.{one, two, three, many, over, an_array, a_record, of_node, of_kind, made};
 ghost use Rattle.term_reader.specs.Operators.{build};
 ghost use Rattle.term_reader.specs.Reads.{tree};
-ghost use Rattle.term_reader.specs.declared.operator.Operator.{Operator};
 ghost use Rattle.term_reader.specs.declared.part.Part.{Part};
 
 use crate::atom::{formula_part, sort_part, term_part};
 use crate::operator::Operator;
 use crate::part::Part;
-use logic_terms::{Formula, Sort, SortList, Starved, Term, TermList};
+use logic_terms::{
+    BinaryNode, BinaryOperator, Comparison, Connective, Formula, ListOperator, Quantifier, Sort,
+    SortList, Starved, Term, TermList, TernaryNode, TernaryOperator, UnaryNode, binary_term,
+    compared, joined, list_term, quantified, ternary_term, unary_term,
+};
 use sqlite_items::{Boxed, Items};
 use std::alloc::Global;
 
@@ -132,14 +137,26 @@ fn two_formulas(mut parts: PartList) -> Result<TwoFormulas, Starved>
 }
 
 /// A formula and two terms.
-fn choice(mut parts: PartList) -> Result<Term, Starved>
-    ensures { IfOk result (λ t. of_node (term t) ≡ made (build Operator.Ite) (map tree parts)) }
+#[derive(Drop)]
+struct Choice {
+    test: Boxed<Formula>,
+    first: Boxed<Term>,
+    second: Boxed<Term>,
+}
+
+/// The parts as a formula and two terms.
+fn choice_of(mut parts: PartList) -> Result<Choice, Starved>
+    ensures { IfOk result (λ r. parts ≡ Part.Formula r.test ∷ Part.Term r.first ∷ Part.Term r.second ∷ []) }
 {
     let second = pop_term(&mut parts)?;
     let first = pop_term(&mut parts)?;
     let test = pop_formula(&mut parts)?;
     if parts.is_empty() {
-        Ok(Term::Ite(test, first, second))
+        Ok(Choice {
+            test,
+            first,
+            second,
+        })
     } else {
         Err(Starved)
     }
@@ -211,7 +228,7 @@ fn sorts_of(alloc: Global, mut parts: PartList) -> Result<SortList, Starved>
 
 /// The array of one sort.
 fn array_of(mut parts: PartList) -> Result<Sort, Starved>
-    ensures { IfOk result (λ s. of_kind (sort s) ≡ made (build Operator.Array) (map tree parts)) }
+    ensures { IfOk result (λ s. of_kind (sort s) ≡ made an_array (map tree parts)) }
 {
     match parts.pop() {
         Some(Part::Sort(item)) => {
@@ -225,151 +242,117 @@ fn array_of(mut parts: PartList) -> Result<Sort, Starved>
     }
 }
 
-/// A term of two terms; no other operator comes here.
-fn make_two(operator: Operator, parts: PartList) -> Result<Term, Starved>
-    ensures { IfOk result (λ t. of_node (term t) ≡ made (build operator) (map tree parts)) }
+/// What has one part.
+fn make_one(alloc: Global, op: UnaryNode, parts: PartList) -> Result<Part, Starved>
+    ensures { IfOk result (λ p. tree p ≡ made (one (op1_of op)) (map tree parts)) }
+{
+    match op {
+        UnaryNode::Bit => term_part(alloc, Term::Bit(one_formula(parts)?)),
+        UnaryNode::Truth => formula_part(alloc, Formula::Tru(one_term(parts)?)),
+        UnaryNode::Not => formula_part(alloc, Formula::Not(one_formula(parts)?)),
+        UnaryNode::Term(op) => term_part(alloc, unary_term(op, one_term(parts)?)),
+    }
+}
+
+/// A term of two terms.
+fn make_binary(alloc: Global, op: BinaryOperator, parts: PartList) -> Result<Part, Starved>
+    ensures { IfOk result (λ p. tree p ≡ made (two (binary_of op)) (map tree parts)) }
 {
     let Two { first, second } = two_terms(parts)?;
-    match operator {
-        Operator::Add => Ok(Term::Add(first, second)),
-        Operator::Sub => Ok(Term::Sub(first, second)),
-        Operator::Mul => Ok(Term::Mul(first, second)),
-        Operator::Quo => Ok(Term::Quo(first, second)),
-        Operator::Rem => Ok(Term::Rem(first, second)),
-        Operator::Mod => Ok(Term::Mod(first, second)),
-        Operator::Pow => Ok(Term::Pow(first, second)),
-        Operator::Sel => Ok(Term::Sel(first, second)),
-        Operator::Upd(k) => Ok(Term::Upd(k, first, second)),
-        _ => Err(Starved),
-    }
+    term_part(alloc, binary_term(op, first, second))
 }
 
-/// A term of one term; no other operator comes here.
-fn make_one(operator: Operator, parts: PartList) -> Result<Term, Starved>
-    ensures { IfOk result (λ t. of_node (term t) ≡ made (build operator) (map tree parts)) }
+/// A formula that compares two terms.
+fn make_compared(alloc: Global, op: Comparison, parts: PartList) -> Result<Part, Starved>
+    ensures { IfOk result (λ p. tree p ≡ made (two (comparison_of op)) (map tree parts)) }
 {
-    let t = one_term(parts)?;
-    match operator {
-        Operator::Fst => Ok(Term::Fst(t)),
-        Operator::Lst => Ok(Term::Lst(t)),
-        Operator::Fld(k) => Ok(Term::Fld(k, t)),
-        _ => Err(Starved),
+    let Two { first, second } = two_terms(parts)?;
+    formula_part(alloc, compared(op, first, second))
+}
+
+/// A formula of two formulas.
+fn make_joined(alloc: Global, op: Connective, parts: PartList) -> Result<Part, Starved>
+    ensures { IfOk result (λ p. tree p ≡ made (two (connective_of op)) (map tree parts)) }
+{
+    let TwoFormulas { first, second } = two_formulas(parts)?;
+    formula_part(alloc, joined(op, first, second))
+}
+
+/// What has two parts.
+fn make_two(alloc: Global, op: BinaryNode, parts: PartList) -> Result<Part, Starved>
+    ensures { IfOk result (λ p. tree p ≡ made (two (op2_of op)) (map tree parts)) }
+{
+    match op {
+        BinaryNode::Term(op) => make_binary(alloc, op, parts),
+        BinaryNode::Compared(op) => make_compared(alloc, op, parts),
+        BinaryNode::Joined(op) => make_joined(alloc, op, parts),
     }
 }
 
-/// A term of three terms; no other operator comes here.
-fn make_three(operator: Operator, parts: PartList) -> Result<Term, Starved>
-    ensures { IfOk result (λ t. of_node (term t) ≡ made (build operator) (map tree parts)) }
+/// The choice of two terms by a formula.
+fn make_choice(alloc: Global, parts: PartList) -> Result<Part, Starved>
+    ensures { IfOk result (λ p. tree p ≡ made (three ite) (map tree parts)) }
+{
+    let Choice {
+        test,
+        first,
+        second,
+    } = choice_of(parts)?;
+    term_part(alloc, Term::Ite(test, first, second))
+}
+
+/// A term of three terms.
+fn make_ternary(alloc: Global, op: TernaryOperator, parts: PartList) -> Result<Part, Starved>
+    ensures { IfOk result (λ p. tree p ≡ made (three (ternary_of op)) (map tree parts)) }
 {
     let Three {
         first,
         second,
         third,
     } = three_terms(parts)?;
-    match operator {
-        Operator::Sto => Ok(Term::Sto(first, second, third)),
-        Operator::Fill => Ok(Term::Fill(first, second, third)),
-        _ => Err(Starved),
+    term_part(alloc, ternary_term(op, first, second, third))
+}
+
+/// What has three parts, apart from quantifiers.
+fn make_three(alloc: Global, op: TernaryNode, parts: PartList) -> Result<Part, Starved>
+    ensures { IfOk result (λ p. tree p ≡ made (three (op3_of op)) (map tree parts)) }
+{
+    match op {
+        TernaryNode::Choice => make_choice(alloc, parts),
+        TernaryNode::Term(op) => make_ternary(alloc, op, parts),
     }
 }
 
-/// The record of terms.
-fn record_of(items: TermList) -> Term
-    ensures { term result ≡ opn fields (terms items) }
-{
-    Term::Rec(items)
-}
-
-/// The call with terms as arguments.
-fn call_of(number: u32, arguments: TermList) -> Term
-    ensures { term result ≡ opn (call number) (terms arguments) }
-{
-    Term::Call(number, arguments)
-}
-
-/// The parts as the fields of a record.
-fn make_record(alloc: Global, parts: PartList) -> Result<Term, Starved>
-    ensures { IfOk result (λ t. of_node (term t) ≡ made (build Operator.Rec) (map tree parts)) }
+/// A term with a list of operands, which the parts are.
+fn list_of_parts(alloc: Global, op: ListOperator, parts: PartList) -> Result<Term, Starved>
+    ensures { IfOk result (λ t. of_node (term t) ≡ made (many (list_of op)) (map tree parts)) }
 {
     match terms_of(alloc, parts) {
         Err(_) => Err(Starved),
-        Ok(items) => Ok(record_of(items)),
+        Ok(items) => Ok(list_term(op, items)),
     }
 }
 
-/// The parts as the arguments of a call.
-fn make_call(alloc: Global, number: u32, parts: PartList) -> Result<Term, Starved>
-    ensures { IfOk result (λ t. of_node (term t) ≡ made (build (Operator.Call number)) (map tree parts)) }
+/// What has a list of parts.
+fn make_list(alloc: Global, op: ListOperator, parts: PartList) -> Result<Part, Starved>
+    ensures { IfOk result (λ p. tree p ≡ made (many (list_of op)) (map tree parts)) }
 {
-    match terms_of(alloc, parts) {
-        Err(_) => Err(Starved),
-        Ok(items) => Ok(call_of(number, items)),
-    }
+    term_part(alloc, list_of_parts(alloc, op, parts)?)
 }
 
-/// A term; no other operator comes here.
-fn make_term(alloc: Global, operator: Operator, parts: PartList) -> Result<Term, Starved>
-    ensures { IfOk result (λ t. of_node (term t) ≡ made (build operator) (map tree parts)) }
-{
-    match operator {
-        Operator::Fst | Operator::Lst | Operator::Fld(_) => make_one(operator, parts),
-        Operator::Sto | Operator::Fill => make_three(operator, parts),
-        Operator::Ite => choice(parts),
-        Operator::Bit => Ok(Term::Bit(one_formula(parts)?)),
-        Operator::Rec => make_record(alloc, parts),
-        Operator::Call(k) => make_call(alloc, k, parts),
-        _ => make_two(operator, parts),
-    }
-}
-
-/// A formula of formulas; no other operator comes here.
-fn make_connective(operator: Operator, parts: PartList) -> Result<Formula, Starved>
-    ensures { IfOk result (λ p. of_node (formula p) ≡ made (build operator) (map tree parts)) }
-{
-    let TwoFormulas { first, second } = two_formulas(parts)?;
-    match operator {
-        Operator::And => Ok(Formula::And(first, second)),
-        Operator::Or => Ok(Formula::Or(first, second)),
-        Operator::Iff => Ok(Formula::Iff(first, second)),
-        _ => Err(Starved),
-    }
-}
-
-/// A formula that compares terms; no other operator comes here.
-fn make_relation(operator: Operator, parts: PartList) -> Result<Formula, Starved>
-    ensures { IfOk result (λ p. of_node (formula p) ≡ made (build operator) (map tree parts)) }
-{
-    let Two { first, second } = two_terms(parts)?;
-    match operator {
-        Operator::Le => Ok(Formula::Le(first, second)),
-        Operator::Eq => Ok(Formula::Eq(first, second)),
-        _ => Err(Starved),
-    }
-}
-
-/// A quantifier; no other operator comes here.
-fn make_quantifier(operator: Operator, parts: PartList) -> Result<Formula, Starved>
-    ensures { IfOk result (λ p. of_node (formula p) ≡ made (build operator) (map tree parts)) }
+/// A formula with a quantifier.
+fn make_quantified(alloc: Global, op: Quantifier, parts: PartList) -> Result<Part, Starved>
+    ensures { IfOk result (λ p. tree p ≡ made (over (quantifier_of op)) (map tree parts)) }
 {
     let Bounds { first, last, body } = range(parts)?;
-    match operator {
-        Operator::All => Ok(Formula::All(first, last, body)),
-        Operator::Any => Ok(Formula::Any(first, last, body)),
-        _ => Err(Starved),
-    }
+    formula_part(alloc, quantified(op, first, last, body))
 }
 
-/// A formula; no other operator comes here.
-fn make_formula(operator: Operator, parts: PartList) -> Result<Formula, Starved>
-    ensures { IfOk result (λ p. of_node (formula p) ≡ made (build operator) (map tree parts)) }
+/// The sort of arrays of one sort.
+fn make_array(alloc: Global, parts: PartList) -> Result<Part, Starved>
+    ensures { IfOk result (λ p. tree p ≡ made an_array (map tree parts)) }
 {
-    match operator {
-        Operator::Tru => Ok(Formula::Tru(one_term(parts)?)),
-        Operator::Not => Ok(Formula::Not(one_formula(parts)?)),
-        Operator::Le | Operator::Eq => make_relation(operator, parts),
-        Operator::All | Operator::Any => make_quantifier(operator, parts),
-        _ => make_connective(operator, parts),
-    }
+    sort_part(alloc, array_of(parts)?)
 }
 
 /// The sort of records with these fields.
@@ -381,8 +364,8 @@ fn record_sort(fields: SortList) -> Sort
 
 /// The parts as the fields of a sort of records.
 #[tactic(auto, using(crate::proofs::Parts::kinds_made))]
-fn make_record_sort(alloc: Global, parts: PartList) -> Result<Sort, Starved>
-    ensures { IfOk result (λ s. of_kind (sort s) ≡ made (build Operator.Record) (map tree parts)) }
+fn record_of(alloc: Global, parts: PartList) -> Result<Sort, Starved>
+    ensures { IfOk result (λ s. of_kind (sort s) ≡ made a_record (map tree parts)) }
 {
     match sorts_of(alloc, parts) {
         Err(_) => Err(Starved),
@@ -390,15 +373,11 @@ fn make_record_sort(alloc: Global, parts: PartList) -> Result<Sort, Starved>
     }
 }
 
-/// A sort; no other operator comes here.
-fn make_sort(alloc: Global, operator: Operator, parts: PartList) -> Result<Sort, Starved>
-    ensures { IfOk result (λ s. of_kind (sort s) ≡ made (build operator) (map tree parts)) }
+/// The sort of records of sorts.
+fn make_record(alloc: Global, parts: PartList) -> Result<Part, Starved>
+    ensures { IfOk result (λ p. tree p ≡ made a_record (map tree parts)) }
 {
-    match operator {
-        Operator::Array => array_of(parts),
-        Operator::Record => make_record_sort(alloc, parts),
-        _ => Err(Starved),
-    }
+    sort_part(alloc, record_of(alloc, parts)?)
 }
 
 /// What stands in brackets, of its parts.
@@ -406,18 +385,12 @@ pub fn make(alloc: Global, operator: Operator, parts: PartList) -> Result<Part, 
     ensures { IfOk result (λ p. tree p ≡ made (build operator) (map tree parts)) }
 {
     match operator {
-        Operator::Array | Operator::Record => {
-            sort_part(alloc, make_sort(alloc, operator, parts)?)
-        }
-        Operator::Tru
-        | Operator::Not
-        | Operator::Le
-        | Operator::Eq
-        | Operator::And
-        | Operator::Or
-        | Operator::Iff
-        | Operator::All
-        | Operator::Any => formula_part(alloc, make_formula(operator, parts)?),
-        _ => term_part(alloc, make_term(alloc, operator, parts)?),
+        Operator::One(op) => make_one(alloc, op, parts),
+        Operator::Two(op) => make_two(alloc, op, parts),
+        Operator::Three(op) => make_three(alloc, op, parts),
+        Operator::List(op) => make_list(alloc, op, parts),
+        Operator::Quantified(op) => make_quantified(alloc, op, parts),
+        Operator::Array => make_array(alloc, parts),
+        Operator::Record => make_record(alloc, parts),
     }
 }

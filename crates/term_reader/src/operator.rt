@@ -1,62 +1,48 @@
 //! What stands after a bracket.
 
 ghost use Rattle.std.specs.Prelude.{◌≡◌, ◌<◌, ◌==◌, nat_lt, if◌then◌else◌, Some, None};
-ghost use Rattle.term_reader.specs.Trees.{wants, is_full, ends_in_number};
+ghost use Rattle.logic_terms.specs.NodeParts.{op1_of, op2_of, op3_of};
+ghost use Rattle.logic_terms.specs.Operators.{list_of};
+ghost use Rattle.term_reader.specs.Trees.{one, two, many, wants, is_full, ends_in_number};
+ghost use Rattle.term_reader.specs.Values.{takes1, takes2, takes3};
 ghost use Rattle.term_reader.specs.Operators.{build, with_index};
 ghost use Rattle.term_reader.specs.declared.part.Side.{Side};
 
 use crate::part::Side;
+use logic_terms::{
+    BinaryNode, BinaryOperator, ListOperator, Quantifier, TernaryNode, UnaryNode, UnaryOperator,
+};
 
 /// What stands after a bracket.
-#[derive(Clone, Copy, Debug, PartialEq, Eq)]
+#[derive(Clone, Copy)]
 pub enum Operator {
-    Add,
-    Sub,
-    Mul,
-    Quo,
-    Rem,
-    Mod,
-    Pow,
-    Bit,
-    Ite,
-    Sel,
-    Sto,
-    Fst,
-    Lst,
-    Fill,
-    Rec,
-    Fld(u32),
-    Upd(u32),
-    Call(u32),
-    Tru,
-    Le,
-    Eq,
-    Not,
-    And,
-    Or,
-    Iff,
-    All,
-    Any,
+    One(UnaryNode),
+    Two(BinaryNode),
+    Three(TernaryNode),
+    List(ListOperator),
+    Quantified(Quantifier),
+    /// The sort of arrays of a sort.
     Array,
+    /// The sort of records of sorts.
     Record,
 }
 
 /// One part.
-fn one(side: Side, count: usize) -> Option<Side>
+fn after_one(side: Side, count: usize) -> Option<Side>
     ensures { result ≡ (if count == 0 then Some side else None) }
 {
     if count == 0 { Some(side) } else { None }
 }
 
 /// Two parts.
-fn two(side: Side, count: usize) -> Option<Side>
+fn after_two(side: Side, count: usize) -> Option<Side>
     ensures { result ≡ (if nat_lt count 2 then Some side else None) }
 {
     if count < 2 { Some(side) } else { None }
 }
 
 /// Three parts, of which the others are terms.
-fn three(first: Side, count: usize) -> Option<Side>
+fn after_three(first: Side, count: usize) -> Option<Side>
     ensures { result ≡ (if count == 0 then Some first else (if nat_lt count 3 then Some Side.Term else None)) }
 {
     if count == 0 {
@@ -69,7 +55,7 @@ fn three(first: Side, count: usize) -> Option<Side>
 }
 
 /// Two terms and a formula.
-fn bound(count: usize) -> Option<Side>
+fn after_bounds(count: usize) -> Option<Side>
     ensures { result ≡ (if nat_lt count 2 then Some Side.Term else (if count == 2 then Some Side.Formula else None)) }
 {
     if count < 2 {
@@ -81,33 +67,80 @@ fn bound(count: usize) -> Option<Side>
     }
 }
 
+/// What the operand of an operator is.
+fn operand(op: UnaryNode) -> Side
+    ensures { result ≡ takes1 (op1_of op) }
+{
+    match op {
+        UnaryNode::Bit | UnaryNode::Not => Side::Formula,
+        UnaryNode::Truth | UnaryNode::Term(_) => Side::Term,
+    }
+}
+
+/// What both operands of an operator are.
+fn operands(op: BinaryNode) -> Side
+    ensures { result ≡ takes2 (op2_of op) }
+{
+    match op {
+        BinaryNode::Joined(_) => Side::Formula,
+        BinaryNode::Compared(_) | BinaryNode::Term(_) => Side::Term,
+    }
+}
+
+/// What the first of three operands is.
+fn first_operand(op: TernaryNode) -> Side
+    ensures { result ≡ takes3 (op3_of op) }
+{
+    match op {
+        TernaryNode::Choice => Side::Formula,
+        TernaryNode::Term(_) => Side::Term,
+    }
+}
+
+/// The operator with this number, if it has one.
+fn unary_with(op: UnaryNode, number: u32) -> UnaryNode
+    ensures { one (op1_of result) ≡ with_index (one (op1_of op)) number }
+{
+    match op {
+        UnaryNode::Term(UnaryOperator::Field(_)) => UnaryNode::Term(UnaryOperator::Field(number)),
+        other => other,
+    }
+}
+
+/// The operator with this number, if it has one.
+fn binary_with(op: BinaryNode, number: u32) -> BinaryNode
+    ensures { two (op2_of result) ≡ with_index (two (op2_of op)) number }
+{
+    match op {
+        BinaryNode::Term(BinaryOperator::Update(_)) => {
+            BinaryNode::Term(BinaryOperator::Update(number))
+        }
+        other => other,
+    }
+}
+
+/// The operator with this number, if it has one.
+fn list_with(op: ListOperator, number: u32) -> ListOperator
+    ensures { many (list_of result) ≡ with_index (many (list_of op)) number }
+{
+    match op {
+        ListOperator::Record => ListOperator::Record,
+        ListOperator::Call(_) => ListOperator::Call(number),
+    }
+}
+
 impl Operator {
     /// What the next part is after so many; none where no part may follow.
     pub fn wants(self, count: usize) -> Option<Side>
         ensures { result ≡ wants (build self) count }
     {
         match self {
-            Operator::Add
-            | Operator::Sub
-            | Operator::Mul
-            | Operator::Quo
-            | Operator::Rem
-            | Operator::Mod
-            | Operator::Pow
-            | Operator::Sel
-            | Operator::Upd(_)
-            | Operator::Le
-            | Operator::Eq => two(Side::Term, count),
-            Operator::And | Operator::Or | Operator::Iff => two(Side::Formula, count),
-            Operator::Fst | Operator::Lst | Operator::Fld(_) | Operator::Tru => {
-                one(Side::Term, count)
-            }
-            Operator::Bit | Operator::Not => one(Side::Formula, count),
-            Operator::Array => one(Side::Sort, count),
-            Operator::Sto | Operator::Fill => three(Side::Term, count),
-            Operator::Ite => three(Side::Formula, count),
-            Operator::All | Operator::Any => bound(count),
-            Operator::Rec | Operator::Call(_) => Some(Side::Term),
+            Operator::One(op) => after_one(operand(op), count),
+            Operator::Two(op) => after_two(operands(op), count),
+            Operator::Three(op) => after_three(first_operand(op), count),
+            Operator::List(_) => Some(Side::Term),
+            Operator::Quantified(_) => after_bounds(count),
+            Operator::Array => after_one(Side::Sort, count),
             Operator::Record => Some(Side::Sort),
         }
     }
@@ -117,17 +150,10 @@ impl Operator {
         ensures { result ≡ is_full (build self) count }
     {
         match self {
-            Operator::Bit
-            | Operator::Fst
-            | Operator::Lst
-            | Operator::Fld(_)
-            | Operator::Tru
-            | Operator::Not
-            | Operator::Array => count == 1,
-            Operator::Ite | Operator::Sto | Operator::Fill | Operator::All | Operator::Any => count
-                == 3,
-            Operator::Rec | Operator::Call(_) | Operator::Record => true,
-            _ => count == 2,
+            Operator::One(_) | Operator::Array => count == 1,
+            Operator::Two(_) => count == 2,
+            Operator::Three(_) | Operator::Quantified(_) => count == 3,
+            Operator::List(_) | Operator::Record => true,
         }
     }
 
@@ -136,7 +162,9 @@ impl Operator {
         ensures { result ≡ ends_in_number (build self) }
     {
         match self {
-            Operator::Fld(_) | Operator::Upd(_) | Operator::Call(_) => true,
+            Operator::One(UnaryNode::Term(UnaryOperator::Field(_))) => true,
+            Operator::Two(BinaryNode::Term(BinaryOperator::Update(_))) => true,
+            Operator::List(ListOperator::Call(_)) => true,
             _ => false,
         }
     }
@@ -146,9 +174,9 @@ impl Operator {
         ensures { build result ≡ with_index (build self) number }
     {
         match self {
-            Operator::Fld(_) => Operator::Fld(number),
-            Operator::Upd(_) => Operator::Upd(number),
-            Operator::Call(_) => Operator::Call(number),
+            Operator::One(op) => Operator::One(unary_with(op, number)),
+            Operator::Two(op) => Operator::Two(binary_with(op, number)),
+            Operator::List(op) => Operator::List(list_with(op, number)),
             other => other,
         }
     }

@@ -9,6 +9,10 @@ ghost use Rattle.term_reader.specs.declared.part.Side.{Side};
 use crate::bytes::byte_at;
 use crate::operator::Operator;
 use crate::part::Side;
+use logic_terms::{
+    Arithmetic, BinaryNode, BinaryOperator, Comparison, Connective, ListOperator, Quantifier,
+    TernaryNode, TernaryOperator, UnaryNode, UnaryOperator,
+};
 
 /// A word, and what it stands for.
 #[derive(Clone, Copy)]
@@ -29,24 +33,60 @@ fn term_row(place: usize) -> Option<Row>
         (λ r. (place < length (words Side.Term)) × (r.word.now ≡ word_at (words Side.Term) place) × (build r.operator ≡ slice_index_or (builds Side.Term 0) place an_array)) }
 {
     match place {
-        0 => make_row(b"+", Operator::Add),
-        1 => make_row(b"-", Operator::Sub),
-        2 => make_row(b"*", Operator::Mul),
-        3 => make_row(b"quo", Operator::Quo),
-        4 => make_row(b"rem", Operator::Rem),
-        5 => make_row(b"mod", Operator::Mod),
-        6 => make_row(b"pow", Operator::Pow),
-        7 => make_row(b"bit", Operator::Bit),
-        8 => make_row(b"ite", Operator::Ite),
-        9 => make_row(b"sel", Operator::Sel),
-        10 => make_row(b"sto", Operator::Sto),
-        11 => make_row(b"fst", Operator::Fst),
-        12 => make_row(b"lst", Operator::Lst),
-        13 => make_row(b"fill", Operator::Fill),
-        14 => make_row(b"rec", Operator::Rec),
-        15 => make_row(b"fld ", Operator::Fld(0)),
-        16 => make_row(b"upd ", Operator::Upd(0)),
-        17 => make_row(b"call ", Operator::Call(0)),
+        0 => make_row(
+            b"+",
+            Operator::Two(BinaryNode::Term(BinaryOperator::Compute(Arithmetic::Add))),
+        ),
+        1 => make_row(
+            b"-",
+            Operator::Two(BinaryNode::Term(BinaryOperator::Compute(Arithmetic::Sub))),
+        ),
+        2 => make_row(
+            b"*",
+            Operator::Two(BinaryNode::Term(BinaryOperator::Compute(Arithmetic::Mul))),
+        ),
+        3 => make_row(
+            b"quo",
+            Operator::Two(BinaryNode::Term(BinaryOperator::Compute(Arithmetic::Quo))),
+        ),
+        4 => make_row(
+            b"rem",
+            Operator::Two(BinaryNode::Term(BinaryOperator::Compute(Arithmetic::Rem))),
+        ),
+        5 => make_row(
+            b"mod",
+            Operator::Two(BinaryNode::Term(BinaryOperator::Compute(Arithmetic::Mod))),
+        ),
+        6 => make_row(
+            b"pow",
+            Operator::Two(BinaryNode::Term(BinaryOperator::Compute(Arithmetic::Pow))),
+        ),
+        7 => make_row(b"bit", Operator::One(UnaryNode::Bit)),
+        8 => make_row(b"ite", Operator::Three(TernaryNode::Choice)),
+        9 => make_row(
+            b"sel",
+            Operator::Two(BinaryNode::Term(BinaryOperator::Select)),
+        ),
+        10 => make_row(
+            b"sto",
+            Operator::Three(TernaryNode::Term(TernaryOperator::Store)),
+        ),
+        11 => make_row(b"fst", Operator::One(UnaryNode::Term(UnaryOperator::First))),
+        12 => make_row(b"lst", Operator::One(UnaryNode::Term(UnaryOperator::Last))),
+        13 => make_row(
+            b"fill",
+            Operator::Three(TernaryNode::Term(TernaryOperator::Fill)),
+        ),
+        14 => make_row(b"rec", Operator::List(ListOperator::Record)),
+        15 => make_row(
+            b"fld ",
+            Operator::One(UnaryNode::Term(UnaryOperator::Field(0))),
+        ),
+        16 => make_row(
+            b"upd ",
+            Operator::Two(BinaryNode::Term(BinaryOperator::Update(0))),
+        ),
+        17 => make_row(b"call ", Operator::List(ListOperator::Call(0))),
         _ => None,
     }
 }
@@ -56,15 +96,18 @@ fn formula_row(place: usize) -> Option<Row>
         (λ r. (place < length (words Side.Formula)) × (r.word.now ≡ word_at (words Side.Formula) place) × (build r.operator ≡ slice_index_or (builds Side.Formula 0) place an_array)) }
 {
     match place {
-        0 => make_row(b"tru", Operator::Tru),
-        1 => make_row(b"<=", Operator::Le),
-        2 => make_row(b"=", Operator::Eq),
-        3 => make_row(b"not", Operator::Not),
-        4 => make_row(b"and", Operator::And),
-        5 => make_row(b"or", Operator::Or),
-        6 => make_row(b"iff", Operator::Iff),
-        7 => make_row(b"all", Operator::All),
-        8 => make_row(b"any", Operator::Any),
+        0 => make_row(b"tru", Operator::One(UnaryNode::Truth)),
+        1 => make_row(
+            b"<=",
+            Operator::Two(BinaryNode::Compared(Comparison::AtMost)),
+        ),
+        2 => make_row(b"=", Operator::Two(BinaryNode::Compared(Comparison::Equal))),
+        3 => make_row(b"not", Operator::One(UnaryNode::Not)),
+        4 => make_row(b"and", Operator::Two(BinaryNode::Joined(Connective::And))),
+        5 => make_row(b"or", Operator::Two(BinaryNode::Joined(Connective::Or))),
+        6 => make_row(b"iff", Operator::Two(BinaryNode::Joined(Connective::Iff))),
+        7 => make_row(b"all", Operator::Quantified(Quantifier::All)),
+        8 => make_row(b"any", Operator::Quantified(Quantifier::Any)),
         _ => None,
     }
 }

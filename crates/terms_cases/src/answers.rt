@@ -1,64 +1,107 @@
 //! The answer to a case.
 
+use crate::kind::{Kind, kind_of};
 use crate::{changes, forms, machine, reading, truths};
 use case_lines::words_of;
-use case_parts::{CaseFault, push_fault};
+use case_parts::{CaseFault, formula_of, push_fault, sort_of_text, term_of};
 use std::alloc::{AllocError, Global};
 
-/// The answer of a kind of case to its words.
-fn answer_words(
-    alloc: Global,
-    line: &mut String,
-    kind: &[u8],
-    words: &[Vec<u8>],
-) -> Result<(), CaseFault> {
+/// The answer to a case of one word.
+fn of_one(alloc: Global, line: &mut String, kind: Kind, word: &[u8]) -> Result<(), CaseFault> {
     match kind {
-        b"term" => reading::term(alloc, line, words),
-        b"formula" => reading::formula(alloc, line, words),
-        b"sort" => reading::sort(alloc, line, words),
-        b"number" => reading::number(alloc, line, words),
-        b"word" => reading::word(line, words),
-        b"precedes" => truths::precedes(alloc, line, words),
-        b"same_term" => truths::same_terms(alloc, line, words),
-        b"same_formula" => truths::same_formulas(alloc, line, words),
-        b"same_sort" => truths::same_sorts(alloc, line, words),
-        b"constant" => truths::constant(alloc, line, words),
-        b"nameless" => truths::nameless(alloc, line, words),
-        b"truth" => truths::computed(alloc, line, words),
-        b"copy_term" => changes::copy_term(alloc, line, words),
-        b"copy_formula" => changes::copy_formula(alloc, line, words),
-        b"copy_sort" => changes::copy_sort(alloc, line, words),
-        b"negate" => changes::negated(alloc, line, words),
-        b"negate_under" => changes::negated_under(alloc, line, words),
-        b"put" => changes::put(alloc, line, words),
-        b"put_under" => changes::put_under(alloc, line, words),
-        _ => answer_forms(alloc, line, kind, words),
-    }
-}
-
-/// The answer of a kind of case of linear forms.
-fn answer_forms(
-    alloc: Global,
-    line: &mut String,
-    kind: &[u8],
-    words: &[Vec<u8>],
-) -> Result<(), CaseFault> {
-    match kind {
-        b"form" => forms::form(alloc, line, words),
-        b"tighten" => forms::tightened(alloc, line, words),
-        b"add_scaled" => forms::scaled_sum(alloc, line, words),
-        b"gcd" => forms::common_divisor(alloc, line, words),
-        b"floor" => forms::floor(alloc, line, words),
-        b"decide" => machine::decided(alloc, line, words),
+        Kind::Term(kind) => {
+            let t = term_of(alloc, word)?;
+            changes::of_term(alloc, line, kind, t.get())
+        }
+        Kind::Formula(kind) => {
+            let p = formula_of(alloc, word)?;
+            changes::of_formula(alloc, line, kind, p.get())
+        }
+        Kind::Sort => {
+            let sort = sort_of_text(alloc, word)?;
+            changes::push_sort_text(alloc, line, sort.get())
+        }
+        Kind::SortCopy => {
+            let sort = sort_of_text(alloc, word)?;
+            changes::copied_sort(alloc, line, sort.get())
+        }
         _ => Err(CaseFault::BadCase),
     }
 }
 
-fn answer_line(alloc: Global, line: &mut String, text: &[u8]) -> Result<(), CaseFault> {
+/// The answer to a case of two words.
+fn of_two(
+    alloc: Global,
+    line: &mut String,
+    kind: Kind,
+    first: &[u8],
+    second: &[u8],
+) -> Result<(), CaseFault> {
+    match kind {
+        Kind::Precedes => truths::precedes(alloc, line, first, second),
+        Kind::SameTerm => truths::same_terms(alloc, line, first, second),
+        Kind::SameFormula => truths::same_formulas(alloc, line, first, second),
+        Kind::SameSort => truths::same_sorts(alloc, line, first, second),
+        Kind::Put => changes::put(alloc, line, first, second),
+        Kind::NegateUnder => changes::negated_under(alloc, line, first, second),
+        Kind::Word => reading::word(line, first, second),
+        Kind::Numbers(kind) => forms::of_numbers(alloc, line, kind, first, second),
+        _ => Err(CaseFault::BadCase),
+    }
+}
+
+/// The answer to a case of three words or four.
+fn of_more(
+    alloc: Global,
+    line: &mut String,
+    kind: Kind,
+    words: &[Vec<u8>],
+) -> Result<(), CaseFault> {
+    match words {
+        [a, b, c] => match kind {
+            Kind::PutUnder => {
+                changes::put_under(alloc, line, a.as_slice(), b.as_slice(), c.as_slice())
+            }
+            Kind::Number => reading::number(alloc, line, a.as_slice(), b.as_slice(), c.as_slice()),
+            _ => Err(CaseFault::BadCase),
+        },
+        [first, by_first, second, by_second] => match kind {
+            Kind::AddScaled => {
+                let m = by_first.as_slice();
+                let n = by_second.as_slice();
+                forms::scaled_sum(alloc, line, first.as_slice(), m, second.as_slice(), n)
+            }
+            _ => Err(CaseFault::BadCase),
+        },
+        _ => Err(CaseFault::BadCase),
+    }
+}
+
+/// The answer of a kind of case to its words.
+fn of_words(
+    alloc: Global,
+    line: &mut String,
+    kind: Kind,
+    words: &[Vec<u8>],
+) -> Result<(), CaseFault> {
+    if let Kind::Decide = kind {
+        return machine::decided(alloc, line, words);
+    }
+    match words {
+        [word] => of_one(alloc, line, kind, word.as_slice()),
+        [first, second] => of_two(alloc, line, kind, first.as_slice(), second.as_slice()),
+        _ => of_more(alloc, line, kind, words),
+    }
+}
+
+fn of_line(alloc: Global, line: &mut String, text: &[u8]) -> Result<(), CaseFault> {
     match words_of(alloc, text) {
         Err(fault) => Err(CaseFault::from(fault)),
         Ok(words) => match words.as_slice() {
-            [kind, rest @ ..] => answer_words(alloc, line, kind.as_slice(), rest),
+            [word, rest @ ..] => match kind_of(word.as_slice()) {
+                Some(kind) => of_words(alloc, line, kind, rest),
+                None => Err(CaseFault::BadCase),
+            },
             [] => Err(CaseFault::BadCase),
         },
     }
@@ -71,7 +114,7 @@ pub fn answer(alloc: Global, text: &str) -> Result<String, AllocError> {
         line.push_str(text)?;
         return Ok(line);
     }
-    if let Err(fault) = answer_line(alloc, &mut line, text.as_bytes()) {
+    if let Err(fault) = of_line(alloc, &mut line, text.as_bytes()) {
         push_fault(&mut line, fault)?;
     }
     Ok(line)

@@ -1,9 +1,11 @@
 //! Linear forms.
 
+use crate::kind::NumbersKind;
 use case_parts::{CaseFault, number_of, push, push_number, push_term_text, term_of};
 use linear_forms::{
     FormFault, LinearForm, Part, add_scaled, floor_quotient, form_of, gcd, tighten,
 };
+use logic_terms::Term;
 use std::alloc::Global;
 
 /// Adds a coefficient, `*` and a variable.
@@ -36,84 +38,67 @@ fn push_made(
     }
 }
 
-/// The form of the term that a word is.
-pub fn form_at(alloc: Global, word: &[u8]) -> Result<LinearForm, CaseFault> {
-    let t = term_of(alloc, word)?;
-    match form_of(alloc, t.get()) {
+/// `form t`
+pub fn form(alloc: Global, line: &mut String, t: &Term) -> Result<(), CaseFault> {
+    push_made(alloc, line, form_of(alloc, t))
+}
+
+/// The form of a term; a term without one is no case.
+fn form_of_case(alloc: Global, t: &Term) -> Result<LinearForm, CaseFault> {
+    match form_of(alloc, t) {
         Ok(form) => Ok(form),
         Err(FormFault::Wide) => Err(CaseFault::BadCase),
         Err(FormFault::Starved) => Err(CaseFault::Starved),
     }
 }
 
-/// `form t`
-pub fn form(alloc: Global, line: &mut String, words: &[Vec<u8>]) -> Result<(), CaseFault> {
-    match words {
-        [text] => {
-            let t = term_of(alloc, text.as_slice())?;
-            push_made(alloc, line, form_of(alloc, t.get()))
-        }
-        _ => Err(CaseFault::BadCase),
-    }
+/// The form of the term that a word is.
+pub fn form_at(alloc: Global, word: &[u8]) -> Result<LinearForm, CaseFault> {
+    let t = term_of(alloc, word)?;
+    form_of_case(alloc, t.get())
 }
 
 /// `tighten t`
-pub fn tightened(alloc: Global, line: &mut String, words: &[Vec<u8>]) -> Result<(), CaseFault> {
-    match words {
-        [text] => {
-            let form = form_at(alloc, text.as_slice())?;
-            match tighten(alloc, &form) {
-                Ok(tight) => push_form(alloc, line, &tight),
-                Err(_) => Err(CaseFault::Starved),
-            }
-        }
-        _ => Err(CaseFault::BadCase),
+pub fn tightened(alloc: Global, line: &mut String, t: &Term) -> Result<(), CaseFault> {
+    let form = form_of_case(alloc, t)?;
+    match tighten(alloc, &form) {
+        Ok(tight) => push_form(alloc, line, &tight),
+        Err(_) => Err(CaseFault::Starved),
     }
 }
 
 /// `add_scaled t m u n`
-pub fn scaled_sum(alloc: Global, line: &mut String, words: &[Vec<u8>]) -> Result<(), CaseFault> {
-    match words {
-        [first, by_first, second, by_second] => {
-            let m = number_of(alloc, by_first.as_slice())?;
-            let n = number_of(alloc, by_second.as_slice())?;
-            let f = form_at(alloc, first.as_slice())?;
-            let g = form_at(alloc, second.as_slice())?;
-            push_made(alloc, line, add_scaled(alloc, &f, m, &g, n))
-        }
-        _ => Err(CaseFault::BadCase),
-    }
-}
-
-/// `gcd a b`
-pub fn common_divisor(
+pub fn scaled_sum(
     alloc: Global,
     line: &mut String,
-    words: &[Vec<u8>],
+    first: &[u8],
+    by_first: &[u8],
+    second: &[u8],
+    by_second: &[u8],
 ) -> Result<(), CaseFault> {
-    match words {
-        [a, b] => {
-            let a = number_of(alloc, a.as_slice())?;
-            let b = number_of(alloc, b.as_slice())?;
+    let m = number_of(alloc, by_first)?;
+    let n = number_of(alloc, by_second)?;
+    let f = form_at(alloc, first)?;
+    let g = form_at(alloc, second)?;
+    push_made(alloc, line, add_scaled(alloc, &f, m, &g, n))
+}
+
+/// `gcd a b`, `floor a b`
+pub fn of_numbers(
+    alloc: Global,
+    line: &mut String,
+    kind: NumbersKind,
+    a: &[u8],
+    b: &[u8],
+) -> Result<(), CaseFault> {
+    let a = number_of(alloc, a)?;
+    let b = number_of(alloc, b)?;
+    match kind {
+        NumbersKind::Divisor => {
             let divisor = gcd(a.unsigned_abs(), b.unsigned_abs());
             Ok(write!(line, "{divisor}")?)
         }
-        _ => Err(CaseFault::BadCase),
-    }
-}
-
-/// `floor a b`
-pub fn floor(alloc: Global, line: &mut String, words: &[Vec<u8>]) -> Result<(), CaseFault> {
-    match words {
-        [a, b] => {
-            let a = number_of(alloc, a.as_slice())?;
-            let b = number_of(alloc, b.as_slice())?;
-            if b > 0 {
-                push_number(line, floor_quotient(a, b.unsigned_abs()))
-            } else {
-                Err(CaseFault::BadCase)
-            }
-        }
-        _ => Err(CaseFault::BadCase),
+        NumbersKind::Floor if b > 0 => push_number(line, floor_quotient(a, b.unsigned_abs())),
+        NumbersKind::Floor => Err(CaseFault::BadCase),
     }
 }

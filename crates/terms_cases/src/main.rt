@@ -28,6 +28,7 @@
 mod answers;
 mod changes;
 mod forms;
+mod kind;
 mod machine;
 mod reading;
 mod truths;

@@ -4,8 +4,8 @@ use Rattle.logic_terms.specs.Weight.{weight, weights}
 use Rattle.logic_terms.proofs.Weights.{weight_at}
 use Rattle.logic_terms.proofs.constant.+levels.Goals as goal
 
-pub terms_levels-term_levels-requires : goal.terms_levels-term_levels-requires
-terms_levels-term_levels-requires t c =
+pub terms_levels-node_levels-requires : goal.terms_levels-node_levels-requires
+terms_levels-node_levels-requires t c =
     let items = c.as_slice-t-items.result.now in
     let e : weights (terms items) ≡ weights (terms c.args.ts.now) = ap (λ ts. weights (terms ts)) c.as_slice-t-items.ensures in
     let s : weight (term c.t-item.result) < weights (terms items) = weight_at items c.loop-t.t-index c.t-item.result c.loop-t-test.true c.t-item.is in

@@ -1,5 +1,6 @@
 use Rattle.std.proofs.Common.{◌≡◌, drop, max}
-use Rattle.logic_terms.specs.View.{term, formula, terms}
+use Rattle.logic_terms.specs.NodeParts.{node_of}
+use Rattle.logic_terms.specs.View.{terms}
 use Rattle.logic_terms.specs.Levels.{levels_of}
 use Rattle.logic_terms.specs.Weight.{weight, weights}
 use Rattle.logic_terms.proofs.constant.+levels.Given as goal
@@ -10,8 +11,5 @@ invariant-terms_levels-loop-t l = levels_of (terms l.ts) ≡ max l.most (levels_
 abbrev pub decreases-terms_levels : goal.decreases-terms_levels
 decreases-terms_levels l = weights (terms l.ts.now)
 
-abbrev pub decreases-term_levels : goal.decreases-term_levels
-decreases-term_levels l = weight (term l.t.now)
-
-abbrev pub decreases-formula_levels : goal.decreases-formula_levels
-decreases-formula_levels l = weight (formula l.p.now)
+abbrev pub decreases-node_levels : goal.decreases-node_levels
+decreases-node_levels l = weight (node_of l.n)

@@ -1,5 +1,6 @@
 use Rattle.std.proofs.Common.{◌≡◌, drop}
-use Rattle.logic_terms.specs.View.{term, formula, terms}
+use Rattle.logic_terms.specs.NodeParts.{node_of}
+use Rattle.logic_terms.specs.View.{terms}
 use Rattle.logic_terms.specs.Names.{name_nothing}
 use Rattle.logic_terms.specs.Weight.{weight, weights}
 use Rattle.logic_terms.proofs.names.+names.Given as goal
@@ -10,8 +11,5 @@ invariant-terms_name_nothing-loop-t l = name_nothing (terms l.ts) ≡ name_nothi
 abbrev pub decreases-terms_name_nothing : goal.decreases-terms_name_nothing
 decreases-terms_name_nothing l = weights (terms l.ts.now)
 
-abbrev pub decreases-term_names_nothing : goal.decreases-term_names_nothing
-decreases-term_names_nothing l = weight (term l.t.now)
-
-abbrev pub decreases-names_nothing : goal.decreases-names_nothing
-decreases-names_nothing l = weight (formula l.p.now)
+abbrev pub decreases-node_names_nothing : goal.decreases-node_names_nothing
+decreases-node_names_nothing l = weight (node_of l.n)

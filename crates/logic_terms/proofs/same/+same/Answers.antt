@@ -9,8 +9,8 @@ pub same_terms-returns-then-len : goal.same_terms-returns-then-len
 same_terms-returns-then-len t c =
     sym (terms_lengths c.args.a.now c.args.b.now (λ e. c.if-len.true (c.len.ensures ∙ e ∙ sym c.len-2.ensures)))
 
-pub same_terms-same_term-requires : goal.same_terms-same_term-requires
-same_terms-same_term-requires t c =
+pub same_terms-same_node-requires : goal.same_terms-same_node-requires
+same_terms-same_node-requires t c =
     let items = c.as_slice.result.now in
     let e : weights (terms items) ≡ weights (terms c.args.a.now) = ap (λ ts. weights (terms ts)) c.as_slice.ensures in
     let n : length items ≡ length c.args.a.now = ap length c.as_slice.ensures in

@@ -4,8 +4,8 @@ use Rattle.logic_terms.specs.Weight.{weight, weights}
 use Rattle.logic_terms.proofs.Weights.{weight_at}
 use Rattle.logic_terms.proofs.text.+text.Goals as goal
 
-pub push_last_terms-push_spaced_term-requires : goal.push_last_terms-push_spaced_term-requires
-push_last_terms-push_spaced_term-requires t c =
+pub push_last_terms-push_spaced-requires : goal.push_last_terms-push_spaced-requires
+push_last_terms-push_spaced-requires t c =
     let items = c.as_slice-t-items.result.now in
     let e : weights (terms items) ≡ weights (terms c.args.ts.now) = ap (λ ts. weights (terms ts)) c.as_slice-t-items.ensures in
     let s : weight (term c.t-item.result) < weights (terms items) = weight_at items c.loop-t.t-index c.t-item.result c.loop-t-test.true c.t-item.is in
