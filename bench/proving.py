@@ -24,7 +24,8 @@ def libraries(name):
 
 
 def command(kit, name, work, more):
-    words = [f"{kit}/bin/rattle", "check", "--crate-name", name, "src/lib.rt"]
+    root = "src/lib.rt" if os.path.isfile(f"{TOP}/crates/{name}/src/lib.rt") else "src/main.rt"
+    words = [f"{kit}/bin/rattle", "check", "--crate-name", name, root]
     kits = f"{kit}/rlibs"
     for it in ["std", *libraries(name)]:
         own = f"{TOP}/crates/{it}/out/rlib"

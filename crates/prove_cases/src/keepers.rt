@@ -3,7 +3,7 @@
 use crate::fault::{CaseFault, number};
 use crate::shown::push_quoted;
 use ada_values::{ByteList, NameText};
-use case_lines::words_of;
+use case_lines::{named, words_of};
 use keeper_io::{
     CallList, Entry, EntryList, FileKeeper, Keeper, ListSink, MapKeeper, read_whole, write_all,
 };
@@ -74,7 +74,33 @@ fn push_put<K: Keeper>(
     }
 }
 
-/// A name and `?` for what is kept under it, or a name and the bytes to keep.
+/// How many bytes a keeper gives for a name.
+fn push_count<K: Keeper>(
+    alloc: Global,
+    out: &mut String,
+    keeper: &mut K,
+    name: &NameText,
+) -> Result<(), AllocError> {
+    match keeper.get(alloc, name) {
+        Ok(Some(found)) => {
+            let count = found.len();
+            write!(out, "{count} bytes")
+        }
+        Ok(None) => out.push_str("none"),
+        Err(fault) => write!(out, "{fault:?}"),
+    }
+}
+
+/// What a step asks besides to put bytes.
+#[derive(Clone, Copy)]
+enum Asked {
+    Bytes,
+    Count,
+}
+
+const ASKED: [(&str, Asked); 2] = [("?", Asked::Bytes), ("#", Asked::Count)];
+
+/// A name and `?` for what is kept under it, a name and `#` for how many bytes these are, or a name and the bytes to keep.
 fn push_step<K: Keeper>(
     alloc: Global,
     out: &mut String,
@@ -85,9 +111,10 @@ fn push_step<K: Keeper>(
         return Err(CaseFault::BadCase);
     };
     let name = NameText::from_bytes(alloc, name.as_slice())?;
-    match value.as_slice() {
-        b"?" => push_get(alloc, out, keeper, &name)?,
-        bytes => push_put(alloc, out, keeper, &name, bytes)?,
+    match named(&ASKED, value.as_slice()) {
+        Some(Asked::Bytes) => push_get(alloc, out, keeper, &name)?,
+        Some(Asked::Count) => push_count(alloc, out, keeper, &name)?,
+        None => push_put(alloc, out, keeper, &name, value.as_slice())?,
     }
     Ok(out.push_str("; ")?)
 }

@@ -4,7 +4,7 @@ use crate::fault::CaseFault;
 use crate::forms::{push_limits, push_position, push_rows};
 use crate::keepers::{push_files, push_keeper, push_sink, push_whole};
 use crate::reports::push_report;
-use crate::runs::push_run;
+use crate::runs::{push_alone, push_run};
 use case_lines::named;
 use std::alloc::Global;
 use std::rt::Files;
@@ -21,9 +21,10 @@ enum Kind {
     Whole,
     Sink,
     Run,
+    Alone,
 }
 
-const KINDS: [(&str, Kind); 9] = [
+const KINDS: [(&str, Kind); 10] = [
     ("limits", Kind::Limits),
     ("position", Kind::Position),
     ("rows", Kind::Rows),
@@ -33,6 +34,7 @@ const KINDS: [(&str, Kind); 9] = [
     ("whole", Kind::Whole),
     ("sink", Kind::Sink),
     ("run", Kind::Run),
+    ("alone", Kind::Alone),
 ];
 
 /// The answer to a kind of case.
@@ -53,6 +55,7 @@ fn push_of_kind<R: Files>(
         Kind::Whole => push_whole(alloc, out, words),
         Kind::Sink => push_sink(alloc, out, words),
         Kind::Run => push_run(alloc, out, words),
+        Kind::Alone => push_alone(rt, alloc, out, words),
     }
 }
 
