@@ -6,7 +6,7 @@ use sqlite_items::Items;
 pub use std::alloc::AllocError as Starved;
 
 /// Numbers of productions.
-pub type NumberList = Items<u32>;
+pub type NumberList = Items<u8>;
 
 /// A derivation: the productions that replace the leftmost phrase, one after another, by their number from 0.
 #[derive(Debug, Drop)]

@@ -23,30 +23,27 @@ pub fn place(next: Option<Terminal>) -> u32
     }
 }
 
-/// Whether a set has a token.
+/// Whether a set has the token at a place.
 #[tactic(auto, unfolding(crate::specs::Choices::has))]
-fn has(set: TokenSet, next: Option<Terminal>) -> bool
-    ensures { result ≡ has set (place next) }
+fn has(set: TokenSet, token: u32) -> bool
+    requires { token < 128 }
+    ensures { result ≡ has set token }
 {
-    (set >> place(next)) % 2 == 1
+    (set >> token) % 2 == 1
 }
 
 /// The number of the first of these rows that is of the phrase and has the next token, of those at the front that are of
-/// the phrase. The rows count from `number`.
-fn among(
-    mut rows: &[Row],
-    mut number: u32,
-    phrase: Nonterminal,
-    next: Option<Terminal>,
-) -> Option<u32>
-    requires { number + length rows.now < 2 ^ 32 }
-    ensures { result ≡ pick (tag_of nonterminal.the_type phrase) (place next) number (map (λ r. r.0) rows.entry.now) }
+/// the phrase. The phrase and the token are given by their places. The rows count from `number`.
+fn among(mut rows: &[Row], mut number: u8, phrase: u32, token: u32) -> Option<u8>
+    requires count { number + length rows.now < 2 ^ 8 }
+    requires token { token < 128 }
+    ensures { result ≡ pick phrase token number (map (λ r. r.0) rows.entry.now) }
 {
     while let [row, rest @ ..] = rows {
-        if row.0.left as u32 != phrase as u32 {
+        if row.0.left as u32 != phrase {
             return None;
         }
-        if has(row.0.before, next) {
+        if has(row.0.before, token) {
             return Some(number);
         }
         number += 1;
@@ -57,12 +54,13 @@ fn among(
 
 /// The number of the row that replaces a phrase, whose first row has this number.
 #[tactic(auto, using(crate::proofs::Firsts::none_past))]
-pub fn choose(rows: &[Row], first: u32, phrase: Nonterminal, next: Option<Terminal>) -> Option<u32>
-    requires { length rows.now < 2 ^ 32 }
+pub fn choose(rows: &[Row], first: u8, phrase: Nonterminal, next: Option<Terminal>) -> Option<u8>
+    requires { length rows.now < 2 ^ 8 }
     ensures { result ≡ pick (tag_of nonterminal.the_type phrase) (place next) first (drop first (map (λ r. r.0) rows.now)) }
 {
-    if (first as usize) < rows.len() {
-        among(&rows[first as usize..], first, phrase, next)
+    let front = first as usize;
+    if front < rows.len() {
+        among(&rows[front..], first, phrase as u32, place(next))
     } else {
         None
     }

@@ -1,7 +1,7 @@
 //! The grammar.
 
 ghost use Rattle.std.specs.Prelude.{◌≡◌, ◌<◌, ◌+◌, ◌^◌, ℕ, length, map, slice_index};
-ghost use Rattle.grammar_table.specs.Choices.{first_from, predict};
+ghost use Rattle.grammar_table.specs.Choices.{first_from, heads, predict};
 ghost use Rattle.grammar_table.specs.Parses.{right_of};
 ghost use Rattle.grammar_table.specs.Productions.{production, productions};
 
@@ -19,7 +19,7 @@ const NONTERMINALS: usize = 81;
 #[derive(Drop)]
 pub struct Grammar {
     /// The number of the first row of each nonterminal.
-    firsts: [u32; NONTERMINALS],
+    firsts: [u8; NONTERMINALS],
 }
 
 impl Model for Grammar {
@@ -37,7 +37,7 @@ impl Model for Grammar {
 
 impl Grammar {
     /// The right side of a production, by its number from 0; nothing where there is no production of this number.
-    pub fn right_of(&self, number: u32) -> &'static [Symbol]
+    pub fn right_of(&self, number: u8) -> &'static [Symbol]
         ensures right { result.now ≡ right_of productions number }
         ensures productions { self.now ≡ productions }
     {
@@ -46,15 +46,25 @@ impl Grammar {
     }
 
     /// The production that replaces a phrase before a token or the end, if there is one.
-    pub fn predict(&self, phrase: Nonterminal, next: Option<Terminal>) -> Option<u32>
+    pub fn predict(&self, phrase: Nonterminal, next: Option<Terminal>) -> Option<u8>
         ensures { result ≡ predict phrase next }
     {
-        choose(&ROWS, self.firsts[phrase as usize], phrase, next)
+        choose(rows(), self.firsts[phrase as usize], phrase, next)
     }
 }
 
+/// The rows of the table.
+#[tactic(auto, unfolding(crate::specs::Choices::heads, crate::specs::Productions::productions))]
+fn rows() -> &'static [Row]
+    ensures heads { map (λ r. r.0) result.now ≡ heads }
+    ensures productions { map (λ r. production r.0.left r.1.now) result.now ≡ productions }
+    ensures count { length result.now ≡ 186 }
+{
+    &ROWS
+}
+
 /// The right side of a row, by its number; nothing where there is no row of this number.
-fn right_among(rows: &'static [Row], number: u32) -> &'static [Symbol]
+fn right_among(rows: &'static [Row], number: u8) -> &'static [Symbol]
     ensures { result.now ≡ right_of (map (λ r. production r.0.left r.1.now) rows.now) number }
 {
     match at(rows, number as usize) {
@@ -64,16 +74,15 @@ fn right_among(rows: &'static [Row], number: u32) -> &'static [Symbol]
 }
 
 /// The right side of a production, by its number; nothing where there is no production of this number.
-#[tactic(auto, unfolding(crate::specs::Productions::productions))]
-pub fn right_of(number: u32) -> &'static [Symbol]
+pub fn right_of(number: u8) -> &'static [Symbol]
     ensures { result.now ≡ right_of productions number }
 {
-    right_among(&ROWS, number)
+    right_among(rows(), number)
 }
 
 /// The number of the first row of a nonterminal, by the place of its name; the number of rows where it has none.
-fn first_row(mut rows: &[Row], phrase: u32) -> u32
-    requires { length rows.now < 2 ^ 32 }
+fn first_row(mut rows: &[Row], phrase: u32) -> u8
+    requires { length rows.now < 2 ^ 8 }
     ensures { result ≡ first_from phrase 0 (map (λ r. r.0) rows.entry.now) }
 {
     let mut number = 0;
@@ -88,8 +97,8 @@ fn first_row(mut rows: &[Row], phrase: u32) -> u32
 }
 
 /// The first rows of the nonterminals, in their order.
-fn first_rows(rows: &[Row]) -> [u32; NONTERMINALS]
-    requires { length rows.now < 2 ^ 32 }
+fn first_rows(rows: &[Row]) -> [u8; NONTERMINALS]
+    requires { length rows.now < 2 ^ 8 }
     ensures { (phrase : ℕ) → phrase < 81 → slice_index result phrase ≡ first_from phrase 0 (map (λ r. r.0) rows.now) }
 {
     let mut firsts = [0; NONTERMINALS];
@@ -104,6 +113,6 @@ pub fn spark_grammar() -> Grammar
     ensures { result ≡ productions }
 {
     Grammar {
-        firsts: first_rows(&ROWS),
+        firsts: first_rows(rows()),
     }
 }

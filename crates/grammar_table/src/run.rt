@@ -73,7 +73,7 @@ impl Run {
     }
 
     /// Replaces the symbol that stands first by the right side of a production.
-    fn expand(&mut self, number: u32) -> Result<(), Starved>
+    fn expand(&mut self, number: u8) -> Result<(), Starved>
         ensures stack { IfOk result (λ _. self.new.stack ≡ right_of productions number ++ drop 1 self.old.stack) }
         ensures numbers { IfOk result (λ _. self.new.numbers ≡ self.old.numbers ++ number ∷ []) }
         ensures levels { IfOk result (λ _. self.new.levels ≡ self.old.levels) }

@@ -56,7 +56,7 @@ pub enum Effect {
 }
 
 /// A phrase of the grammar, under the name that the productions give it.
-#[derive(Clone, Copy, Debug, PartialEq, Eq)]
+#[derive(Clone, Copy, PartialEq, Eq)]
 pub enum Nonterminal {
     /// A compilation unit with its context.
     File,
@@ -223,7 +223,7 @@ pub enum Nonterminal {
 }
 
 /// A symbol of a right side.
-#[derive(Clone, Copy, Debug, PartialEq, Eq)]
+#[derive(Clone, Copy, PartialEq, Eq)]
 pub enum Symbol {
     Token(Terminal, Effect),
     Phrase(Nonterminal),
