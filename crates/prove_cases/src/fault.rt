@@ -1,11 +1,10 @@
 //! Why a case has no answer, and numbers in cases.
 
 use case_lines::LineFault;
-use keeper_io::KeepFault;
-use std::alloc::{AllocError, AllocFailed};
+use std::alloc::AllocError;
 
 /// Why a case has no answer.
-#[derive(Clone, Copy, Debug, PartialEq, Eq)]
+#[derive(Clone, Copy)]
 pub enum CaseFault {
     /// Its words aren't those of a case.
     BadCase,
@@ -28,9 +27,11 @@ impl From<AllocError> for CaseFault {
     }
 }
 
-impl<T: Drop> From<AllocFailed<T>> for CaseFault {
-    fn from(_: AllocFailed<T>) -> CaseFault {
-        CaseFault::Starved
+/// What was made, or that memory was refused.
+pub fn made<T: Drop>(answer: Result<T, AllocError>) -> Result<T, CaseFault> {
+    match answer {
+        Ok(value) => Ok(value),
+        Err(_) => Err(CaseFault::Starved),
     }
 }
 

@@ -1,9 +1,9 @@
 //! Forms that a case writes out, and the rows that they have.
 
-use crate::fault::{CaseFault, small_number};
-use crate::shown::names;
+use crate::fault::{CaseFault, made, small_number};
+use crate::shown::{name_of, names, split};
 use ada_values::{NameList, NameText, Place};
-use case_lines::{named, words_of};
+use case_lines::named;
 use first_form::{
     Assertion, AssertionList, FirstForm, Operand, Placed, first_unknown, is_form, position_of,
 };
@@ -33,14 +33,14 @@ const RELATIONS: [(&str, Relation); 6] = [
 ];
 
 /// A number, or else a name.
-fn operand(alloc: Global, word: &[u8]) -> Result<Operand, AllocError> {
+fn operand(alloc: Global, word: &[u8]) -> Result<Operand, CaseFault> {
     match small_number(word) {
         Ok(number) => Ok(Operand::Number(number)),
-        Err(_) => Ok(Operand::Name(NameText::from_bytes(alloc, word)?)),
+        Err(_) => Ok(Operand::Name(name_of(alloc, word)?)),
     }
 }
 
-fn placed(alloc: Global, place: Place, word: &[u8]) -> Result<Placed, AllocError> {
+fn placed(alloc: Global, place: Place, word: &[u8]) -> Result<Placed, CaseFault> {
     let operand = operand(alloc, word)?;
     Ok(Placed { place, operand })
 }
@@ -62,19 +62,27 @@ fn assertion(alloc: Global, words: &[Vec<u8>]) -> Result<Assertion, CaseFault> {
             relation,
             right,
         }),
-        Err(_) => {
+        Err(fault) => {
             drop(left);
-            Err(CaseFault::Starved)
+            Err(fault)
         }
     }
 }
 
+fn push_assertion(
+    alloc: Global,
+    assertions: &mut AssertionList,
+    words: &[Vec<u8>],
+) -> Result<(), CaseFault> {
+    made(assertions.push(assertion(alloc, words)?))
+}
+
 /// Assertions by four words each.
 fn assertions(alloc: Global, text: &[u8]) -> Result<AssertionList, CaseFault> {
-    let words = words_of(alloc, text)?;
+    let words = split(alloc, text)?;
     let mut assertions = Items::new(alloc);
     for words in words.as_slice().chunks(4) {
-        assertions.push(assertion(alloc, words)?)?;
+        push_assertion(alloc, &mut assertions, words)?;
     }
     Ok(assertions)
 }
@@ -84,14 +92,20 @@ fn form(alloc: Global, words: &[Vec<u8>]) -> Result<FirstForm, CaseFault> {
     let [name, params, shown] = words else {
         return Err(CaseFault::BadCase);
     };
+    let name = name_of(alloc, name.as_slice())?;
     let params = names(alloc, params.as_slice())?;
-    let assertions = assertions(alloc, shown.as_slice())?;
-    let name = NameText::from_bytes(alloc, name.as_slice())?;
-    Ok(FirstForm {
-        name,
-        params,
-        assertions,
-    })
+    match assertions(alloc, shown.as_slice()) {
+        Ok(assertions) => Ok(FirstForm {
+            name,
+            params,
+            assertions,
+        }),
+        Err(fault) => {
+            drop(name);
+            drop(params);
+            Err(fault)
+        }
+    }
 }
 
 /// The line and the column of the first unknown name of a form that keeps the limits.
@@ -107,8 +121,10 @@ fn push_unknown(out: &mut String, form: &FirstForm) -> Result<(), AllocError> {
 
 /// Whether a form keeps the limits, and the line and the column of its first unknown name.
 pub fn push_limits(alloc: Global, out: &mut String, words: &[Vec<u8>]) -> Result<(), CaseFault> {
-    let form = form(alloc, words)?;
-    Ok(push_unknown(out, &form)?)
+    match form(alloc, words) {
+        Ok(form) => made(push_unknown(out, &form)),
+        Err(fault) => Err(fault),
+    }
 }
 
 /// The most parameters of a form.
@@ -129,9 +145,11 @@ pub fn push_position(alloc: Global, out: &mut String, words: &[Vec<u8>]) -> Resu
     let [name, params] = words else {
         return Err(CaseFault::BadCase);
     };
-    let params = names(alloc, params.as_slice())?;
-    let name = NameText::from_bytes(alloc, name.as_slice())?;
-    Ok(push_number(out, &params, &name)?)
+    let name = name_of(alloc, name.as_slice())?;
+    match names(alloc, params.as_slice()) {
+        Ok(params) => made(push_number(out, &params, &name)),
+        Err(fault) => Err(fault),
+    }
 }
 
 fn push_row(out: &mut String, row: &Row) -> Result<(), AllocError> {
@@ -152,6 +170,7 @@ fn push_list(out: &mut String, rows: &[Row]) -> Result<(), AllocError> {
     out.push_str("end")
 }
 
+/// The rows of a form that keeps the limits.
 fn push_rows_of(alloc: Global, out: &mut String, form: &FirstForm) -> Result<(), AllocError> {
     if !is_form(form) {
         return out.push_str("no form");
@@ -164,6 +183,8 @@ fn push_rows_of(alloc: Global, out: &mut String, form: &FirstForm) -> Result<(),
 
 /// The rows of a form.
 pub fn push_rows(alloc: Global, out: &mut String, words: &[Vec<u8>]) -> Result<(), CaseFault> {
-    let form = form(alloc, words)?;
-    Ok(push_rows_of(alloc, out, &form)?)
+    match form(alloc, words) {
+        Ok(form) => made(push_rows_of(alloc, out, &form)),
+        Err(fault) => Err(fault),
+    }
 }

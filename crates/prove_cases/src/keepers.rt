@@ -1,23 +1,39 @@
 //! Keepers and sinks, of which listed calls fail.
 
-use crate::fault::{CaseFault, number};
-use crate::shown::push_quoted;
+use crate::fault::{CaseFault, made, number};
+use crate::shown::{name_of, push_quoted, split};
 use ada_values::{ByteList, NameText};
-use case_lines::{named, words_of};
-use keeper_io::{
-    CallList, Entry, EntryList, FileKeeper, Keeper, ListSink, MapKeeper, read_whole, write_all,
-};
+use case_lines::named;
+use keeper_io::{CallList, Entry, EntryList, Keeper, ListSink, MapKeeper, read_whole, write_all};
 use std::alloc::{AllocError, Global};
-use std::rt::Files;
+
+fn push_call(calls: &mut CallList, word: &[u8]) -> Result<(), CaseFault> {
+    made(calls.push(number(word)?))
+}
 
 /// The numbers in a text.
 fn numbers(alloc: Global, text: &[u8]) -> Result<CallList, CaseFault> {
-    let words = words_of(alloc, text)?;
-    let mut numbers = CallList::new(alloc);
+    let words = split(alloc, text)?;
+    let mut calls = CallList::new(alloc);
     for word in words.as_slice() {
-        numbers.push(number(word.as_slice())?)?;
+        push_call(&mut calls, word.as_slice())?;
     }
-    Ok(numbers)
+    Ok(calls)
+}
+
+fn entry_of(alloc: Global, name: &[u8], bytes: &[u8]) -> Result<Entry, CaseFault> {
+    let name = name_of(alloc, name)?;
+    let bytes = made(ByteList::from_slice(alloc, bytes))?;
+    Ok(Entry { name, bytes })
+}
+
+/// A list of one entry.
+fn entries_of(alloc: Global, entry: Entry) -> Result<EntryList, CaseFault> {
+    let mut entries = EntryList::new(alloc);
+    match entries.push(entry) {
+        Ok(()) => Ok(entries),
+        Err(_) => Err(CaseFault::Starved),
+    }
 }
 
 /// A keeper of one entry.
@@ -27,22 +43,48 @@ pub fn keeper_of(
     bytes: &[u8],
     fails: &[u8],
 ) -> Result<MapKeeper, CaseFault> {
-    let fails = numbers(alloc, fails)?;
-    let name = NameText::from_bytes(alloc, name)?;
-    let bytes = ByteList::from_slice(alloc, bytes)?;
-    let mut entries = EntryList::new(alloc);
-    entries.push(Entry { name, bytes })?;
-    Ok(MapKeeper::new(entries, fails))
+    let entries = entries_of(alloc, entry_of(alloc, name, bytes)?)?;
+    match numbers(alloc, fails) {
+        Ok(fails) => Ok(MapKeeper::new(entries, fails)),
+        Err(fault) => {
+            drop(entries);
+            Err(fault)
+        }
+    }
 }
 
 /// A sink, of which one call takes so many bytes at most.
 pub fn sink_of(alloc: Global, fails: &[u8], most: &[u8]) -> Result<ListSink, CaseFault> {
-    let fails = numbers(alloc, fails)?;
     let most = number(most)? as usize;
     if most == 0 {
         return Err(CaseFault::BadCase);
     }
+    let fails = numbers(alloc, fails)?;
     Ok(ListSink::taking(alloc, fails, most))
+}
+
+/// What a step asks of a keeper besides to put bytes.
+#[derive(Clone, Copy)]
+enum Asked {
+    /// The bytes under a name.
+    Bytes,
+    /// How many bytes these are.
+    Count,
+}
+
+const ASKED: [(&str, Asked); 2] = [("?", Asked::Bytes), ("#", Asked::Count)];
+
+fn push_found(out: &mut String, asked: Asked, bytes: &[u8]) -> Result<(), AllocError> {
+    match asked {
+        Asked::Bytes => {
+            push_quoted(out, bytes)?;
+            out.push_str("; ")
+        }
+        Asked::Count => {
+            let count = bytes.len();
+            write!(out, "{count} bytes; ")
+        }
+    }
 }
 
 /// What a keeper gives for a name.
@@ -51,11 +93,12 @@ fn push_get<K: Keeper>(
     out: &mut String,
     keeper: &mut K,
     name: &NameText,
+    asked: Asked,
 ) -> Result<(), AllocError> {
     match keeper.get(alloc, name) {
-        Ok(Some(found)) => push_quoted(out, found.as_slice()),
-        Ok(None) => out.push_str("none"),
-        Err(fault) => write!(out, "{fault:?}"),
+        Ok(Some(found)) => push_found(out, asked, found.as_slice()),
+        Ok(None) => out.push_str("none; "),
+        Err(fault) => write!(out, "{fault:?}; "),
     }
 }
 
@@ -69,38 +112,12 @@ fn push_put<K: Keeper>(
 ) -> Result<(), AllocError> {
     let bytes = ByteList::from_slice(alloc, bytes)?;
     match keeper.put(alloc, name, &bytes) {
-        Ok(()) => out.push_str("put"),
-        Err(fault) => write!(out, "{fault:?}"),
+        Ok(()) => out.push_str("put; "),
+        Err(fault) => write!(out, "{fault:?}; "),
     }
 }
 
-/// How many bytes a keeper gives for a name.
-fn push_count<K: Keeper>(
-    alloc: Global,
-    out: &mut String,
-    keeper: &mut K,
-    name: &NameText,
-) -> Result<(), AllocError> {
-    match keeper.get(alloc, name) {
-        Ok(Some(found)) => {
-            let count = found.len();
-            write!(out, "{count} bytes")
-        }
-        Ok(None) => out.push_str("none"),
-        Err(fault) => write!(out, "{fault:?}"),
-    }
-}
-
-/// What a step asks besides to put bytes.
-#[derive(Clone, Copy)]
-enum Asked {
-    Bytes,
-    Count,
-}
-
-const ASKED: [(&str, Asked); 2] = [("?", Asked::Bytes), ("#", Asked::Count)];
-
-/// A name and `?` for what is kept under it, a name and `#` for how many bytes these are, or a name and the bytes to keep.
+/// A name and what is asked of it, or a name and the bytes to keep.
 fn push_step<K: Keeper>(
     alloc: Global,
     out: &mut String,
@@ -110,13 +127,11 @@ fn push_step<K: Keeper>(
     let [name, value] = words else {
         return Err(CaseFault::BadCase);
     };
-    let name = NameText::from_bytes(alloc, name.as_slice())?;
+    let name = name_of(alloc, name.as_slice())?;
     match named(&ASKED, value.as_slice()) {
-        Some(Asked::Bytes) => push_get(alloc, out, keeper, &name)?,
-        Some(Asked::Count) => push_count(alloc, out, keeper, &name)?,
-        None => push_put(alloc, out, keeper, &name, value.as_slice())?,
+        Some(asked) => made(push_get(alloc, out, keeper, &name, asked)),
+        None => made(push_put(alloc, out, keeper, &name, value.as_slice())),
     }
-    Ok(out.push_str("; ")?)
 }
 
 /// What a keeper answers to steps.
@@ -126,7 +141,7 @@ fn push_steps<K: Keeper>(
     keeper: &mut K,
     steps: &[u8],
 ) -> Result<(), CaseFault> {
-    let words = words_of(alloc, steps)?;
+    let words = split(alloc, steps)?;
     for words in words.as_slice().chunks(2) {
         push_step(alloc, out, keeper, words)?;
     }
@@ -153,37 +168,49 @@ fn push_entries(out: &mut String, keeper: &MapKeeper) -> Result<(), AllocError> 
     Ok(())
 }
 
+/// What a keeper answers to steps, and what it holds then.
+fn push_held(
+    alloc: Global,
+    out: &mut String,
+    keeper: &mut MapKeeper,
+    steps: &[u8],
+) -> Result<(), CaseFault> {
+    push_steps(alloc, out, keeper, steps)?;
+    made(push_entries(out, keeper))
+}
+
 /// What a keeper of one entry in memory answers to steps, how many calls were made, and what is kept in the end.
 pub fn push_keeper(alloc: Global, out: &mut String, words: &[Vec<u8>]) -> Result<(), CaseFault> {
     let [name, bytes, fails, steps] = words else {
         return Err(CaseFault::BadCase);
     };
-    let mut keeper = keeper_of(alloc, name.as_slice(), bytes.as_slice(), fails.as_slice())?;
-    push_steps(alloc, out, &mut keeper, steps.as_slice())?;
-    Ok(push_entries(out, &keeper)?)
+    match keeper_of(alloc, name.as_slice(), bytes.as_slice(), fails.as_slice()) {
+        Ok(mut keeper) => push_held(alloc, out, &mut keeper, steps.as_slice()),
+        Err(fault) => Err(fault),
+    }
 }
 
 /// What the keeper of real files answers to steps.
-pub fn push_files<R: Files>(
-    rt: &R,
+pub fn push_files<K: Keeper>(
     alloc: Global,
+    files: &mut K,
     out: &mut String,
     words: &[Vec<u8>],
 ) -> Result<(), CaseFault> {
     let [steps] = words else {
         return Err(CaseFault::BadCase);
     };
-    let mut keeper = FileKeeper::new(rt);
-    push_steps(alloc, out, &mut keeper, steps.as_slice())?;
-    Ok(out.push_str("end")?)
+    push_steps(alloc, out, files, steps.as_slice())?;
+    made(out.push_str("end"))
 }
 
 /// Writes a piece to a sink.
 fn push_written(out: &mut String, sink: &mut ListSink, piece: &[u8]) -> Result<(), AllocError> {
-    match write_all(sink, piece) {
-        Ok(()) => out.push_str("written ")?,
-        Err(_) => out.push_str("failed ")?,
-    }
+    let ended = match write_all(sink, piece) {
+        Ok(()) => "written ",
+        Err(_) => "failed ",
+    };
+    out.push_str(ended)?;
     push_quoted(out, sink.bytes())?;
     let calls = sink.calls();
     write!(out, " {calls} calls")
@@ -194,8 +221,18 @@ pub fn push_sink(alloc: Global, out: &mut String, words: &[Vec<u8>]) -> Result<(
     let [piece, fails, most] = words else {
         return Err(CaseFault::BadCase);
     };
-    let mut sink = sink_of(alloc, fails.as_slice(), most.as_slice())?;
-    Ok(push_written(out, &mut sink, piece.as_slice())?)
+    match sink_of(alloc, fails.as_slice(), most.as_slice()) {
+        Ok(mut sink) => made(push_written(out, &mut sink, piece.as_slice())),
+        Err(fault) => Err(fault),
+    }
+}
+
+fn push_read(alloc: Global, out: &mut String, bytes: &[u8], most: usize) -> Result<(), AllocError> {
+    let mut file = bytes;
+    match read_whole(alloc, &mut file, most) {
+        Ok(found) => push_quoted(out, found.as_slice()),
+        Err(fault) => write!(out, "{fault:?}"),
+    }
 }
 
 /// What is read of a file of these bytes where it may have at most so many.
@@ -204,9 +241,5 @@ pub fn push_whole(alloc: Global, out: &mut String, words: &[Vec<u8>]) -> Result<
         return Err(CaseFault::BadCase);
     };
     let most = number(most.as_slice())? as usize;
-    let mut file = bytes.as_slice();
-    match read_whole(alloc, &mut file, most) {
-        Ok(found) => Ok(push_quoted(out, found.as_slice())?),
-        Err(fault) => Ok(write!(out, "{fault:?}")?),
-    }
+    made(push_read(alloc, out, bytes.as_slice(), most))
 }

@@ -6,8 +6,8 @@ use crate::keepers::{push_files, push_keeper, push_sink, push_whole};
 use crate::reports::push_report;
 use crate::runs::{push_alone, push_run};
 use case_lines::named;
+use keeper_io::Keeper;
 use std::alloc::Global;
-use std::rt::Files;
 
 /// What a case asks.
 #[derive(Clone, Copy)]
@@ -38,9 +38,9 @@ const KINDS: [(&str, Kind); 10] = [
 ];
 
 /// The answer to a kind of case.
-fn push_of_kind<R: Files>(
-    rt: &R,
+fn push_of_kind<K: Keeper>(
     alloc: Global,
+    files: &mut K,
     out: &mut String,
     kind: Kind,
     words: &[Vec<u8>],
@@ -51,18 +51,18 @@ fn push_of_kind<R: Files>(
         Kind::Rows => push_rows(alloc, out, words),
         Kind::Report => push_report(alloc, out, words),
         Kind::Keeper => push_keeper(alloc, out, words),
-        Kind::Files => push_files(rt, alloc, out, words),
+        Kind::Files => push_files(alloc, files, out, words),
         Kind::Whole => push_whole(alloc, out, words),
         Kind::Sink => push_sink(alloc, out, words),
         Kind::Run => push_run(alloc, out, words),
-        Kind::Alone => push_alone(rt, alloc, out, words),
+        Kind::Alone => push_alone(alloc, files, out, words),
     }
 }
 
 /// The answer to the words of a case, of which the first says what is asked.
-pub fn push_answer<R: Files>(
-    rt: &R,
+pub fn push_answer<K: Keeper>(
     alloc: Global,
+    files: &mut K,
     out: &mut String,
     words: &[Vec<u8>],
 ) -> Result<(), CaseFault> {
@@ -70,7 +70,7 @@ pub fn push_answer<R: Files>(
         return Err(CaseFault::BadCase);
     };
     match named(&KINDS, first.as_slice()) {
-        Some(kind) => push_of_kind(rt, alloc, out, kind, words),
+        Some(kind) => push_of_kind(alloc, files, out, kind, words),
         None => Err(CaseFault::BadCase),
     }
 }

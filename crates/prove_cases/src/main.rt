@@ -30,58 +30,79 @@ mod reports;
 mod runs;
 mod shown;
 
-use case_lines::words_of;
-use fault::CaseFault;
-use keeper_io::{OutSink, write_all};
+use fault::{CaseFault, made};
+use keeper_io::{FileKeeper, Keeper, OutSink, Sink, write_all};
 use kind::push_answer;
+use shown::split;
 use std::alloc::{AllocError, Global};
 use std::process::ExitCode;
-use std::rt::Files;
 
 /// Adds the answer to a line.
-fn push_line<R: Files>(
-    rt: &R,
+fn push_line<K: Keeper>(
     alloc: Global,
+    files: &mut K,
     out: &mut String,
     line: &str,
 ) -> Result<(), CaseFault> {
     if line.is_empty() || line.as_bytes()[0] == b'#' {
-        return Ok(out.push_str(line)?);
+        return made(out.push_str(line));
     }
-    let words = words_of(alloc, line.as_bytes())?;
-    push_answer(rt, alloc, out, words.as_slice())
+    let words = split(alloc, line.as_bytes())?;
+    push_answer(alloc, files, out, words.as_slice())
 }
 
-/// Adds what stands in place of an answer.
-fn push_fault(out: &mut String, fault: CaseFault) -> Result<(), AllocError> {
-    match fault {
-        CaseFault::BadCase => out.push_str("no such case"),
-        CaseFault::Starved => out.push_str("no memory"),
+/// Adds the answer to a line, or what stands in place of it, and a line feed.
+fn push_answered<K: Keeper>(
+    alloc: Global,
+    files: &mut K,
+    out: &mut String,
+    line: &str,
+) -> Result<(), AllocError> {
+    match push_line(alloc, files, out, line) {
+        Ok(()) => out.push('\n'),
+        Err(CaseFault::BadCase) => out.push_str("no such case\n"),
+        Err(CaseFault::Starved) => out.push_str("no memory\n"),
     }
 }
 
-/// The answer to a line, with its line feed.
-fn answer<R: Files>(rt: &R, alloc: Global, line: &str) -> Result<String, AllocError> {
+/// Writes the answer to a line, and tells whether it could.
+fn writes_answer<K: Keeper, S: Sink>(
+    alloc: Global,
+    files: &mut K,
+    sink: &mut S,
+    line: &str,
+) -> bool {
     let mut out = String::new(alloc);
-    if let Err(fault) = push_line(rt, alloc, &mut out, line) {
-        push_fault(&mut out, fault)?;
+    match push_answered(alloc, files, &mut out, line) {
+        Ok(()) => write_all(sink, out.as_str().as_bytes()).is_ok(),
+        Err(_) => false,
     }
-    out.push('\n')?;
-    Ok(out)
+}
+
+/// Writes the answer to each line, and tells whether it could.
+fn writes_answers<K: Keeper, S: Sink>(
+    alloc: Global,
+    files: &mut K,
+    sink: &mut S,
+    cases: &str,
+) -> bool {
+    for line in cases.lines() {
+        if !writes_answer(alloc, files, sink, line) {
+            return false;
+        }
+    }
+    true
 }
 
 fn main(rt: HostRuntime) -> ExitCode {
     let Ok(cases) = case_lines::cases(&rt) else {
         return ExitCode::FAILURE;
     };
-    let mut out = OutSink::new(&rt);
-    for line in cases.lines() {
-        let Ok(answer) = answer(&rt, rt.alloc(), line) else {
-            return ExitCode::FAILURE;
-        };
-        if write_all(&mut out, answer.as_str().as_bytes()).is_err() {
-            return ExitCode::FAILURE;
-        }
+    let mut files = FileKeeper::new(&rt);
+    let mut sink = OutSink::new(&rt);
+    if writes_answers(rt.alloc(), &mut files, &mut sink, cases.as_str()) {
+        ExitCode::SUCCESS
+    } else {
+        ExitCode::FAILURE
     }
-    ExitCode::SUCCESS
 }
