@@ -170,7 +170,12 @@ fn pragma_in(alloc: Global, text: &[u8], pragma: &Pragma) -> Result<Assertion, F
     let Some(condition) = argument_in(pragma.args.as_slice()) else {
         return Err(FormFault::NotBuilt);
     };
-    comparison_in(alloc, text, place_at(text, pragma.span), condition.node.get())
+    comparison_in(
+        alloc,
+        text,
+        place_at(text, pragma.span),
+        condition.node.get(),
+    )
 }
 
 /// The assertion that a statement is.

@@ -178,7 +178,6 @@ pub struct Parts {
 impl Model for Parts {
     ghost use Rattle.std.specs.Prelude.{List};
     ghost use Rattle.tree_parts.specs.declared.parts.Part.{Part};
-
     ghost use Rattle.std.specs.Coded.{coded_list};
     ghost use Rattle.tree_parts.specs.contracts.parts.Part as part;
 
