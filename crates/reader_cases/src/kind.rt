@@ -3,7 +3,7 @@
 ghost use Rattle.std.specs.Prelude.{◌<◌, ◌^◌, length};
 
 use crate::forms::push_form;
-use crate::reading::{push_grammar, push_productions, push_read};
+use crate::reading::{Shown, push_derived, push_read};
 use crate::texts::{push_count, push_places, push_tokens};
 use crate::trees::{push_declaration, push_extent, push_statement, push_unit, push_value};
 use case_lines::named;
@@ -52,8 +52,8 @@ fn push_of_kind(alloc: Global, out: &mut String, kind: Kind, text: &[u8]) -> Res
         Kind::Tokens => push_tokens(alloc, out, text),
         Kind::Count => push_count(alloc, out, text),
         Kind::Places => push_places(out, text),
-        Kind::Productions => push_productions(alloc, out, text),
-        Kind::Grammar => push_grammar(alloc, out, text),
+        Kind::Productions => push_derived(alloc, out, Shown::Numbers, text),
+        Kind::Grammar => push_derived(alloc, out, Shown::Word, text),
         Kind::Read => push_read(alloc, out, text),
         Kind::Value => push_value(alloc, out, text),
         Kind::Statement => push_statement(alloc, out, text),

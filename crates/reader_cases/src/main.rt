@@ -29,26 +29,35 @@ use kind::push_answer;
 use std::alloc::{AllocError, Global};
 use std::io;
 
-/// The answer to a line.
-fn answer(alloc: Global, line: &str) -> Result<String, AllocError> {
+/// Adds the answer to a line.
+fn push_line(alloc: Global, out: &mut String, line: &str) -> Result<(), AllocError> {
     if line.is_empty() || line.as_bytes()[0] == b'#' {
-        return String::from_str(alloc, line);
+        return out.push_str(line);
     }
-    let mut out = String::new(alloc);
     match words_of(alloc, line.as_bytes()) {
-        Ok(words) => push_answer(alloc, &mut out, words.as_slice())?,
-        Err(fault) => write!(out, "{fault:?}")?,
+        Ok(words) => push_answer(alloc, out, words.as_slice()),
+        Err(fault) => write!(out, "{fault:?}"),
     }
-    Ok(out)
+}
+
+/// Prints the answer to a line.
+fn print_answer<R: Print + AllocGlobal>(rt: &R, line: &str) -> io::Result<()> {
+    let mut out = String::new(rt.alloc());
+    match push_line(rt.alloc(), &mut out, line) {
+        Ok(()) => println!(rt; "{out}"),
+        Err(_) => println!(rt; "no memory"),
+    }
+}
+
+/// Prints the answer to each line.
+fn print_answers<R: Print + AllocGlobal>(rt: &R, cases: &str) -> io::Result<()> {
+    for line in cases.lines() {
+        print_answer(rt, line)?;
+    }
+    Ok(())
 }
 
 fn main(rt: HostRuntime) -> io::Result<()> {
     let cases = case_lines::cases(&rt)?;
-    for line in cases.lines() {
-        match answer(rt.alloc(), line) {
-            Ok(answer) => println!(rt; "{answer}")?,
-            Err(_) => println!(rt; "no memory")?,
-        }
-    }
-    Ok(())
+    print_answers(&rt, cases.as_str())
 }

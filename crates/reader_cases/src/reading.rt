@@ -4,20 +4,12 @@ ghost use Rattle.std.specs.Prelude.{◌<◌, ◌^◌, length};
 ghost use Rattle.spark_reader.specs.Reads.{Refuses};
 
 use ada_text::{line_col, tokens};
-use grammar_table::{Derivation, SyntaxFault, derive, spark_grammar};
+use grammar_table::{Derivation, derive, spark_grammar};
 use spark_reader::{ReadRefusal, read};
 use std::alloc::{AllocError, Global};
 
-/// The derivation of a text, or why there is none; nothing where it has no tokens.
-fn derivation(alloc: Global, text: &[u8]) -> Option<Result<Derivation, SyntaxFault>>
-    requires { length text.now < 2 ^ 31 }
-{
-    let Ok(found) = tokens(alloc, text) else {
-        return None;
-    };
-    let grammar = spark_grammar();
-    Some(derive(alloc, &grammar, &found))
-}
+/// More tokens aren't tried.
+const MOST_TOKENS: usize = 1 << 31;
 
 fn push_numbers(out: &mut String, numbers: &[u32]) -> Result<(), AllocError> {
     for number in numbers {
@@ -26,25 +18,44 @@ fn push_numbers(out: &mut String, numbers: &[u32]) -> Result<(), AllocError> {
     out.push_str("end")
 }
 
-/// The numbers of the productions of the leftmost derivation, or the first fault with the number of its token.
-pub fn push_productions(alloc: Global, out: &mut String, text: &[u8]) -> Result<(), AllocError>
-    requires { length text.now < 2 ^ 31 }
-{
-    match derivation(alloc, text) {
-        Some(Ok(found)) => push_numbers(out, found.productions.as_slice()),
-        Some(Err(fault)) => write!(out, "{fault:?}"),
-        None => out.push_str("no tokens"),
+/// What is shown of a derivation.
+#[derive(Clone, Copy)]
+pub enum Shown {
+    /// The numbers of its productions.
+    Numbers,
+    /// That there is one.
+    Word,
+}
+
+fn push_derivation(
+    out: &mut String,
+    shown: Shown,
+    derivation: &Derivation,
+) -> Result<(), AllocError> {
+    match shown {
+        Shown::Numbers => push_numbers(out, derivation.productions.as_slice()),
+        Shown::Word => out.push_str("derived"),
     }
 }
 
-/// Whether there is a derivation, or the first fault with the number of its token.
-pub fn push_grammar(alloc: Global, out: &mut String, text: &[u8]) -> Result<(), AllocError>
+/// What is shown of the leftmost derivation of a text, or the first fault with the number of its token.
+pub fn push_derived(
+    alloc: Global,
+    out: &mut String,
+    shown: Shown,
+    text: &[u8],
+) -> Result<(), AllocError>
     requires { length text.now < 2 ^ 31 }
 {
-    match derivation(alloc, text) {
-        Some(Ok(_)) => out.push_str("derived"),
-        Some(Err(fault)) => write!(out, "{fault:?}"),
-        None => out.push_str("no tokens"),
+    let Ok(found) = tokens(alloc, text) else {
+        return out.push_str("no tokens");
+    };
+    if found.len() > MOST_TOKENS {
+        return out.push_str("too many tokens");
+    }
+    match derive(alloc, &spark_grammar(), &found) {
+        Ok(derivation) => push_derivation(out, shown, &derivation),
+        Err(fault) => write!(out, "{fault:?}"),
     }
 }
 
