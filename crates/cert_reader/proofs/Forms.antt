@@ -7,6 +7,7 @@ use Rattle.cert_lines.specs.Line.{Line, given, opening, choice, propagation, lin
 use Rattle.term_reader.specs.Bytes.{first}
 use Rattle.term_reader.specs.Words.{IsNoWord}
 use Rattle.term_reader.proofs.Spelling.{same_place}
+use Rattle.term_reader.proofs.Choosing.{some_at}
 use Rattle.logic_text.specs.Certs.{spaced_number, spaced_whole, spaced_node, nodes_text, numbers_text, literals_text, steps_text, line_text, lines_text}
 use Rattle.term_reader.specs.Phases.{IsBad, IsUpTo}
 use Rattle.term_reader.specs.Values.{IsCount, IsFormula}
@@ -293,6 +294,19 @@ mapped (w ∷ ws) (suc i) h = mapped ws i (omega arith)
 
 pub word_is : (i : ℕ) → i < length words → get_or words i [] ≡ word_of (get_or line_words i line.End)
 word_is i h = mapped line_words i h
+
+-- ---- a row of a table of them
+
+pub row_some : (ws : List (List ℕ)) (i : ℕ) → ws ≡ words → i < length ws → 0 < length (get_or ws i [])
+row_some ws i e h =
+    subst (λ (l : List (List ℕ)). 0 < length (get_or l i [])) (sym e)
+    (some_at words i refl (subst (λ (l : List (List ℕ)). i < length l) e h))
+
+pub row_word : (ws : List (List ℕ)) (ls : List LineWord) (i : ℕ) (w : LineWord) → ws ≡ words → ls ≡ line_words → i < length ws → w ≡ get_or ls i line.End → get_or ws i [] ≡ word_of w
+row_word ws ls i w e f h g =
+    ap (λ (l : List (List ℕ)). get_or l i []) e
+    ∙ word_is i (subst (λ (l : List (List ℕ)). i < length l) e h)
+    ∙ ap word_of (sym (g ∙ ap (λ (l : List LineWord). get_or l i line.End) f))
 
 pub no_word_bad : (s r : List ℕ) → IsNoWord words s r → IsBad InLines s r
 no_word_bad s r f = record {

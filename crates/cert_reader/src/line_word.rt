@@ -1,11 +1,11 @@
 //! The words of lines.
 
-ghost use Rattle.std.specs.Prelude.{◌≡◌, ◌+◌, ◌<◌, ◌≤◌, ◌++◌, max, length, drop, IfOk, IfErr, MatchOption, slice_index_or};
-ghost use Rattle.term_reader.specs.Words.{word_at, IsNoWord};
+ghost use Rattle.std.specs.Prelude.{◌≡◌, ◌<◌, ◌≤◌, ◌++◌, length, drop, map, slice_index_or, IfOk, IfErr};
+ghost use Rattle.term_reader.specs.Words.{IsNoWord};
 ghost use Rattle.cert_reader.specs.Words.{line_words, word_of, words};
 ghost use Rattle.cert_reader.specs.declared.line_word.LineWord.{LineWord};
 
-use term_reader::{common, greater};
+use term_reader::word_among;
 
 /// What a line begins with, the last line included.
 #[derive(Clone, Copy, Debug, PartialEq, Eq)]
@@ -29,42 +29,42 @@ pub enum LineWord {
 }
 
 /// A word, and what it stands for.
-#[derive(Clone, Copy)]
-struct Row {
-    word: &'static [u8],
-    line: LineWord,
+type Row = (&'static [u8], LineWord);
+
+/// The words of lines.
+static LINE_WORDS: [Row; 16] = [
+    (b"given", LineWord::Given),
+    (b"open", LineWord::Open),
+    (b"case", LineWord::Case),
+    (b"rup", LineWord::Rup),
+    (b"lin", LineWord::Lin),
+    (b"tri", LineWord::Tri),
+    (b"ins", LineWord::Ins),
+    (b"new", LineWord::New),
+    (b"same", LineWord::Same),
+    (b"arr", LineWord::Arr),
+    (b"ext", LineWord::Ext),
+    (b"fld", LineWord::Fld),
+    (b"div", LineWord::Div),
+    (b"mul", LineWord::Mul),
+    (b"calc", LineWord::Calc),
+    (b"end", LineWord::End),
+];
+
+/// The words of lines.
+fn rows() -> &'static [Row]
+    ensures words { map (λ w. w.0.now) result.now ≡ words }
+    ensures lines { map (λ w. w.1) result.now ≡ line_words }
+{
+    &LINE_WORDS
 }
 
-fn make_row(word: &'static [u8], line: LineWord) -> Option<Row>
-    ensures { MatchOption result ⊥ (λ r. (r.word.now ≡ word.now) × (r.line ≡ line)) }
+/// What the word at a place of a table stands for.
+fn line_at(table: &[Row], place: usize) -> LineWord
+    requires { place < length table.now }
+    ensures { result ≡ slice_index_or (map (λ w. w.1) table.now) place LineWord.End }
 {
-    Some(Row { word, line })
-}
-
-/// The word at a place of the table, if there is one.
-fn row_at(place: usize) -> Option<Row>
-    ensures { MatchOption result (length words ≤ place)
-        (λ r. (place < length words) × (r.word.now ≡ word_at words place) × (r.line ≡ slice_index_or line_words place LineWord.End)) }
-{
-    match place {
-        0 => make_row(b"given", LineWord::Given),
-        1 => make_row(b"open", LineWord::Open),
-        2 => make_row(b"case", LineWord::Case),
-        3 => make_row(b"rup", LineWord::Rup),
-        4 => make_row(b"lin", LineWord::Lin),
-        5 => make_row(b"tri", LineWord::Tri),
-        6 => make_row(b"ins", LineWord::Ins),
-        7 => make_row(b"new", LineWord::New),
-        8 => make_row(b"same", LineWord::Same),
-        9 => make_row(b"arr", LineWord::Arr),
-        10 => make_row(b"ext", LineWord::Ext),
-        11 => make_row(b"fld", LineWord::Fld),
-        12 => make_row(b"div", LineWord::Div),
-        13 => make_row(b"mul", LineWord::Mul),
-        14 => make_row(b"calc", LineWord::Calc),
-        15 => make_row(b"end", LineWord::End),
-        _ => None,
-    }
+    table[place].1
 }
 
 /// The word of a line, and the place after it.
@@ -83,18 +83,12 @@ pub fn choose(bytes: &[u8], at: usize) -> Result<Chosen, usize>
     ensures place { IfErr result (λ to. to ≤ length bytes.now) }
     ensures fault { IfErr result (λ to. IsNoWord words (drop at bytes.now) (drop to bytes.now)) }
 {
-    let mut place = 0;
-    let mut furthest = 0;
-    while let Some(row) = row_at(place) {
-        let agreed = common(row.word, bytes, at);
-        if agreed == row.word.len() {
-            return Ok(Chosen {
-                line: row.line,
-                to: at + agreed,
-            });
-        }
-        furthest = greater(furthest, agreed);
-        place += 1;
+    let table = rows();
+    match word_among(table, bytes, at) {
+        Err(to) => Err(to),
+        Ok(found) => Ok(Chosen {
+            line: line_at(table, found.place),
+            to: found.to,
+        }),
     }
-    Err(at + furthest)
 }

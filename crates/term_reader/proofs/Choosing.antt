@@ -1,8 +1,9 @@
 -- The word at the front of a text, of a list of words.
 use Rattle.std.proofs.Common.{◌≡◌, refl, sym, ◌∙◌, ap, ap₂, subst, ℕ, zero, suc, ◌+◌, ◌<◌, ◌≤◌, max, Bool, true, false, List, [], ◌∷◌, ◌++◌, length, get_or, take, drop, arith, inl, inr}
-use Rattle.std.specs.Prelude.{◌==◌, ◌&&◌, nat_lt}
+use Rattle.std.specs.Prelude.{◌==◌}
+use Rattle.std.specs.Ordering.{ord_max, nat_cmp}
 use Rattle.std.proofs.lemmas.List.{take-append-drop, drop-drop, drop_all, drop_more}
-use Rattle.std.proofs.lemmas.Bool.{and_parts, false≢true, eqb-true, ne_eqb, eq-eqb, cond-true, cond-false, cases_Bool, ltb-true, cases_lt}
+use Rattle.std.proofs.lemmas.Bool.{false≢true, eqb-true, ne_eqb, eq-eqb, cond-true, cond-false, cases_Bool, cases_lt}
 use Rattle.term_reader.specs.Bytes.{first}
 use Rattle.term_reader.specs.Words.{common_of, furthest_of, word_at, IsNoWord}
 use Rattle.term_reader.proofs.Digits.{same_head, same_tail}
@@ -72,14 +73,10 @@ front_common (x ∷ w) (y ∷ s) = elim (cases_Bool (y == x)) [
       subst (λ (n : ℕ). x ∷ w ≡ take n (y ∷ s) ++ drop n (x ∷ w)) (sym k) refl
 ]
 
-abbrev pub bytes_only : List ℕ → Bool
-bytes_only [] = true
-bytes_only (c ∷ cs) = nat_lt c 256 && bytes_only cs
-
-no_common : (w s k rest : List ℕ) (m : ℕ) → bytes_only w ≡ true → m ≤ length s → common_of w s ≤ m → common_of w s < length w → w ++ k ≡ take m s ++ (first (drop m s) ∷ rest) → ⊥
+no_common : (w s k rest : List ℕ) (m : ℕ) → ((i : ℕ) → get_or w i 0 < 256) → m ≤ length s → common_of w s ≤ m → common_of w s < length w → w ++ k ≡ take m s ++ (first (drop m s) ∷ rest) → ⊥
 no_common [] s k rest m b h l f e = omega arith
 no_common (x ∷ w) [] k rest zero b h l f e =
-    let c : x < 256 = ltb-true x 256 (and_parts (nat_lt x 256) (bytes_only w) b).0 in
+    let c : x < 256 = b 0 in
     let d : x ≡ 256 = same_head x 256 (w ++ k) rest e in omega arith
 no_common (x ∷ w) [] k rest (suc m) b h l f e = omega arith
 no_common (x ∷ w) (y ∷ s) k rest zero b h l f e =
@@ -89,7 +86,7 @@ no_common (x ∷ w) (y ∷ s) k rest zero b h l f e =
 no_common (x ∷ w) (y ∷ s) k rest (suc m) b h l f e =
     let d : y ≡ x = sym (same_head x y (w ++ k) (take m s ++ (first (drop m s) ∷ rest)) e) in
     let c : common_of (x ∷ w) (y ∷ s) ≡ suc (common_of w s) = cond-true (y == x) (suc (common_of w s)) 0 (eq-eqb y x d) in
-    no_common w s k rest m (and_parts (nat_lt x 256) (bytes_only w) b).1 (omega arith) (omega arith) (omega arith)
+    no_common w s k rest m (λ i. b (suc i)) (omega arith) (omega arith) (omega arith)
     (same_tail x y (w ++ k) (take m s ++ (first (drop m s) ∷ rest)) e)
 
 record Furthest (ws : List (List ℕ)) (s : List ℕ) : Type 0 where
@@ -116,21 +113,13 @@ at_most [] s i h = absurd (omega arith)
 at_most (w ∷ ws) s zero h = omega arith
 at_most (w ∷ ws) s (suc i) h = let k : common_of (word_at ws i) s ≤ furthest_of ws s = at_most ws s i (omega arith) in omega arith
 
-abbrev pub all_bytes : List (List ℕ) → Bool
-all_bytes [] = true
-all_bytes (w ∷ ws) = bytes_only w && all_bytes ws
+-- a word that ends after the text ceases to say what it says
+pub record IsPassed (w s : List ℕ) : Type 0 where
+  pub short : common_of w s < length w
+  pub bytes : (i : ℕ) → get_or w i 0 < 256
 
-bytes_at : (ws : List (List ℕ)) (i : ℕ) → all_bytes ws ≡ true → i < length ws → bytes_only (word_at ws i) ≡ true
-bytes_at [] i b h = absurd (omega arith)
-bytes_at (w ∷ ws) zero b h = (and_parts (bytes_only w) (all_bytes ws) b).0
-bytes_at (w ∷ ws) (suc i) b h = bytes_at ws i (and_parts (bytes_only w) (all_bytes ws) b).1 (omega arith)
-
--- every word ends before the text does what it says
-abbrev pub NoneWhole : List (List ℕ) → List ℕ → Type 0
-NoneWhole ws s = (i : ℕ) → i < length ws → common_of (word_at ws i) s < length (word_at ws i)
-
-pub no_word : (ws : List (List ℕ)) (bytes : List ℕ) (at m : ℕ) → 0 < length ws → all_bytes ws ≡ true → NoneWhole ws (drop at bytes) → m ≡ furthest_of ws (drop at bytes) → m ≤ length (drop at bytes) → IsNoWord ws (drop at bytes) (drop (at + m) bytes)
-no_word ws bytes at m some only none e l =
+pub no_word : (ws : List (List ℕ)) (bytes : List ℕ) (at m : ℕ) → 0 < length ws → ((i : ℕ) → i < length ws → IsPassed (word_at ws i) (drop at bytes)) → m ≡ furthest_of ws (drop at bytes) → m ≤ length (drop at bytes) → IsNoWord ws (drop at bytes) (drop (at + m) bytes)
+no_word ws bytes at m some passed e l =
     let t = drop at bytes in
     let f = furthest ws t some in
     let c : common_of (word_at ws f.place) t ≡ m = f.reached ∙ sym e in
@@ -145,7 +134,8 @@ no_word ws bytes at m some only none e l =
       );
       stuck = λ i k rest h x.
           let u = at_most ws t i h in
-          no_common (word_at ws i) t k rest m (bytes_at ws i only h) l (omega arith) (none i h)
+          let p = passed i h in
+          no_common (word_at ws i) t k rest m p.bytes l (omega arith) p.short
           (x ∙ ap (λ (y : List ℕ). take m t ++ (first y ∷ rest)) (sym r));
     }
 
@@ -156,33 +146,26 @@ some_bytes [] = true
 some_bytes ([] ∷ ws) = false
 some_bytes ((c ∷ cs) ∷ ws) = some_bytes ws
 
-some_at : (ws : List (List ℕ)) (i : ℕ) → some_bytes ws ≡ true → i < length ws → 0 < length (get_or ws i [])
+pub some_at : (ws : List (List ℕ)) (i : ℕ) → some_bytes ws ≡ true → i < length ws → 0 < length (get_or ws i [])
 some_at [] i b h = absurd (omega arith)
 some_at ([] ∷ ws) i b h = absurd (false≢true b)
 some_at ((c ∷ cs) ∷ ws) zero b h = omega arith
 some_at ((c ∷ cs) ∷ ws) (suc i) b h = some_at ws i b (omega arith)
 
-pub record WordRead (v bytes : List ℕ) (at n : ℕ) : Type 0 where
-  pub some : 0 < n
-  pub text : drop at bytes ≡ v ++ drop (at + n) bytes
-
-pub word_read : (ws : List (List ℕ)) (i at n : ℕ) (bytes w v : List ℕ) → some_bytes ws ≡ true → i < length ws → w ≡ word_at ws i → word_at ws i ≡ v → n ≡ common_of w (drop at bytes) → n ≡ length w → WordRead v bytes at n
-word_read ws i at n bytes w v b h e f g l =
-    let p : 0 < length w = subst (λ (x : List ℕ). 0 < length x) (sym e) (some_at ws i b h) in record {
-      some = omega arith;
-      text = word_front w (drop at bytes) (sym g ∙ l)
-          ∙ ap₂ (λ (x : List ℕ) (m : ℕ). x ++ drop m (drop at bytes)) (e ∙ f) (sym l)
-          ∙ ap (λ (x : List ℕ). v ++ x) (drop-drop n at bytes);
-    }
+pub word_read : (at n : ℕ) (bytes w v : List ℕ) → v ≡ w → n ≡ common_of w (drop at bytes) → n ≡ length w → drop at bytes ≡ v ++ drop (at + n) bytes
+word_read at n bytes w v e g l =
+    word_front w (drop at bytes) (sym g ∙ l)
+    ∙ ap₂ (λ (x : List ℕ) (m : ℕ). x ++ drop m (drop at bytes)) (sym e) (sym l)
+    ∙ ap (λ (x : List ℕ). v ++ x) (drop-drop n at bytes)
 
 -- ---- a row more
 
 greatest : (a f g c d x : ℕ) → a ≡ max f d → g ≡ c → d ≡ max c x → a ≡ max (max f g) x
 greatest a f g c d x h k e = omega arith
 
-pub next_row : (ws : List (List ℕ)) (s w : List ℕ) (place furthest agreed : ℕ) → place < length ws → furthest_of ws s ≡ max furthest (furthest_of (drop place ws) s) → agreed ≡ common_of w s → w ≡ word_at ws place → furthest_of ws s ≡ max (max furthest agreed) (furthest_of (drop (place + 1) ws) s)
+pub next_row : (ws : List (List ℕ)) (s w : List ℕ) (place furthest agreed : ℕ) → place < length ws → furthest_of ws s ≡ max furthest (furthest_of (drop place ws) s) → agreed ≡ common_of w s → word_at ws place ≡ w → furthest_of ws s ≡ max (max furthest agreed) (furthest_of (drop (place + 1) ws) s)
 next_row ws s w place furthest agreed h e f g =
-    let k : agreed ≡ common_of (word_at ws place) s = f ∙ ap (λ (v : List ℕ). common_of v s) g in
+    let k : agreed ≡ common_of (word_at ws place) s = f ∙ ap (λ (v : List ℕ). common_of v s) (sym g) in
     let d : furthest_of (drop place ws) s ≡ max (common_of (word_at ws place) s) (furthest_of (drop (place + 1) ws) s) =
     ap (λ (l : List (List ℕ)). furthest_of l s) (drop_more ws place [] h) in
     greatest (furthest_of ws s) furthest agreed (common_of (word_at ws place) s) (furthest_of (drop place ws) s) (furthest_of (drop (place + 1) ws) s) e k d
@@ -193,3 +176,6 @@ all_rows ws s place furthest h e =
 
 pub not_whole : (w s : List ℕ) (n : ℕ) → n ≡ common_of w s → (n ≡ length w → ⊥) → common_of w s < length w
 not_whole w s n e f = let c = (common_within w s).0 in omega arith
+
+pub max_is : (a b : ℕ) → ord_max nat_cmp a b ≡ max a b
+max_is a b = grind arith

@@ -1,20 +1,15 @@
 -- The words of a side.
-use Rattle.std.proofs.Common.{◌≡◌, refl, ℕ, zero, suc, ◌<◌, true, List, [], ◌∷◌, length, get_or, map, arith, lit<}
+use Rattle.std.proofs.Common.{◌≡◌, refl, sym, ◌∙◌, ap, subst, ℕ, zero, suc, ◌<◌, true, List, [], ◌∷◌, length, get_or, map, arith, lit<}
 use Rattle.term_reader.specs.declared.part.Side.{Side}
 use Rattle.term_reader.specs.declared.part.Side.TheVariants.{Term, Formula, Sort}
 use Rattle.term_reader.specs.Trees.{Build, an_array, gives, fits}
 use Rattle.term_reader.specs.Words.{builds, word, words, word_at}
-use Rattle.term_reader.proofs.Choosing.{all_bytes, some_bytes}
+use Rattle.term_reader.proofs.Choosing.{some_bytes, some_at}
 
 pub words_there : (s : Side) → 0 < length (words s)
 words_there Term = lit< tt
 words_there Formula = lit< tt
 words_there Sort = lit< tt
-
-pub words_bytes : (s : Side) → all_bytes (words s) ≡ true
-words_bytes Term = refl
-words_bytes Formula = refl
-words_bytes Sort = refl
 
 pub words_some : (s : Side) → some_bytes (words s) ≡ true
 words_some Term = refl
@@ -46,3 +41,21 @@ build_at s i h = all_at s (builds s 0) i (all_builds s) h
 
 pub word_is : (s : Side) (i : ℕ) → i < length (words s) → word_at (words s) i ≡ word (get_or (builds s 0) i an_array)
 word_is s i h = mapped (builds s 0) i h
+
+-- ---- a row of a table of them
+
+pub row_some : (s : Side) (ws : List (List ℕ)) (i : ℕ) → ws ≡ words s → i < length ws → 0 < length (word_at ws i)
+row_some s ws i e h =
+    subst (λ (l : List (List ℕ)). 0 < length (word_at l i)) (sym e)
+    (some_at (words s) i (words_some s) (subst (λ (l : List (List ℕ)). i < length l) e h))
+
+pub row_word : (s : Side) (ws : List (List ℕ)) (os : List Build) (i : ℕ) (o : Build) → ws ≡ words s → os ≡ builds s 0 → i < length ws → o ≡ get_or os i an_array → word_at ws i ≡ word o
+row_word s ws os i o e f h g =
+    ap (λ (l : List (List ℕ)). word_at l i) e
+    ∙ word_is s i (subst (λ (l : List (List ℕ)). i < length l) e h)
+    ∙ ap word (sym (g ∙ ap (λ (l : List Build). get_or l i an_array) f))
+
+pub row_gives : (s : Side) (ws : List (List ℕ)) (os : List Build) (i : ℕ) (o : Build) → ws ≡ words s → os ≡ builds s 0 → i < length ws → o ≡ get_or os i an_array → gives o ≡ s
+row_gives s ws os i o e f h g =
+    ap gives (g ∙ ap (λ (l : List Build). get_or l i an_array) f)
+    ∙ (build_at s i (subst (λ (l : List (List ℕ)). i < length l) e h)).0

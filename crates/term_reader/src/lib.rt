@@ -15,6 +15,7 @@ mod operator;
 mod part;
 mod sort_text;
 mod steps;
+mod table;
 mod whole;
 mod words;
 
@@ -26,5 +27,5 @@ pub use number::{Number, read_number};
 pub use part::{Part, Side};
 pub use sort_text::push_sort;
 pub use steps::{Read, read_part};
+pub use table::{WordPlace, word_among};
 pub use whole::{Whole, read_whole};
-pub use words::{common, greater};

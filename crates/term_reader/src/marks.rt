@@ -3,7 +3,7 @@
 ghost use Rattle.std.specs.Prelude.{◌≡◌, ◌+◌, ◌≤◌, ◌++◌, length, drop, IfOk, IfErr};
 ghost use Rattle.term_reader.specs.Words.{IsWordFault};
 
-use crate::words::common;
+use crate::table::common;
 
 /// The place after a word that is to stand at a place. The error is the first byte that is another.
 #[tactic(auto, using(crate::proofs::WordPlaces::word_whole, crate::proofs::WordPlaces::word_fault))]

@@ -3,7 +3,7 @@ use Rattle.term_reader.specs.Bytes.{first}
 use Rattle.term_reader.specs.Words.{common_of}
 use Rattle.term_reader.proofs.Choosing.{common_step}
 use Rattle.term_reader.proofs.Fronts.{first_is}
-use Rattle.term_reader.proofs.words.common.Goals as goal
+use Rattle.term_reader.proofs.table.common.Goals as goal
 
 shift : (a x : ℕ) → a + suc x ≡ a + 1 + x
 shift a x = omega arith
