@@ -1,5 +1,5 @@
 //! Files as a keeper.
-ghost use Rattle.std.specs.Prelude.{◌≡◌, ◌<◌, ◌≤◌, ◌↔◌, ℕ, List, length, vec_len, IfOk, OnOk, IfSome, Option, None};
+ghost use Rattle.std.specs.Prelude.{◌≡◌, ◌<◌, ◌≤◌, ◌*◌, ◌^◌, ◌↔◌, ℕ, List, length, vec_len, IfOk, OnOk, IfSome, IsUtf8, Option, None, Ok, Err};
 ghost use Rattle.std.specs.Bool.{OnTrue};
 ghost use Rattle.std.specs.IoError.{error_kind};
 ghost use Rattle.std.specs.Io.KnownBytes.{Consumes, IsAtEnd};
@@ -99,11 +99,11 @@ pub fn read_whole<F: Read>(alloc: Global, file: &mut F, most: usize) -> Result<V
     Err(KeepFault::Failed)
 }
 
-fn read_file<R: Files>(
-    files: &R,
-    alloc: Global,
-    name: &[u8],
-) -> Result<Option<ByteList>, KeepFault> {
+/// Reads the file of a name. A name that isn't UTF-8 names none.
+fn read_file<R: Files>(files: &R, alloc: Global, name: &[u8]) -> Result<Option<ByteList>, KeepFault>
+    ensures unnamed { (IsUtf8 name.now → ⊥) → result ≡ Ok None }
+    ensures limit { IfOk result (λ found. IfSome found (λ bytes. length bytes ≤ 128 * 2 ^ 20)) }
+{
     let Ok(path) = str::from_utf8(name) else {
         return Ok(None);
     };
@@ -114,7 +114,10 @@ fn read_file<R: Files>(
     }
 }
 
-fn write_file<R: Files>(files: &R, name: &[u8], bytes: &[u8]) -> Result<(), KeepFault> {
+/// Writes the file of a name. A name that isn't UTF-8 is a failure.
+fn write_file<R: Files>(files: &R, name: &[u8], bytes: &[u8]) -> Result<(), KeepFault>
+    ensures unnamed { (IsUtf8 name.now → ⊥) → result ≡ Err KeepFault.Failed }
+{
     let Ok(path) = str::from_utf8(name) else {
         return Err(KeepFault::Failed);
     };
@@ -124,13 +127,21 @@ fn write_file<R: Files>(files: &R, name: &[u8], bytes: &[u8]) -> Result<(), Keep
 }
 
 impl<R: Files> Keeper for FileKeeper<R> {
+    ghost use Rattle.keeper_io.specs.Causes.{HasKeepCause};
+
     ghost told = { λ _. None };
 
     ghost get_faults = { λ keeper. keeper.get_faults };
 
     ghost put_faults = { λ keeper. keeper.put_faults };
 
-    fn get(&mut self, alloc: Global, name: &NameText) -> Result<Option<ByteList>, KeepFault> {
+    fn get(&mut self, alloc: Global, name: &NameText) -> Result<Option<ByteList>, KeepFault>
+        ensures cause { HasKeepCause self.old.get_faults self.new.get_faults result }
+        ensures other_count { self.new.put_faults ≡ self.old.put_faults }
+
+        ensures unnamed { (IsUtf8 name.now → ⊥) → result ≡ Ok None }
+        ensures limit { IfOk result (λ found. IfSome found (λ bytes. length bytes ≤ 128 * 2 ^ 20)) }
+    {
         let answer = read_file(&self.files, alloc, name.as_bytes());
         if let Err(KeepFault::Failed) = answer {
             self.get_faults = self.get_faults.saturating_add(1);
@@ -138,7 +149,12 @@ impl<R: Files> Keeper for FileKeeper<R> {
         answer
     }
 
-    fn put(&mut self, _alloc: Global, name: &NameText, bytes: &ByteList) -> Result<(), KeepFault> {
+    fn put(&mut self, _alloc: Global, name: &NameText, bytes: &ByteList) -> Result<(), KeepFault>
+        ensures cause { HasKeepCause self.old.put_faults self.new.put_faults result }
+        ensures other_count { self.new.get_faults ≡ self.old.get_faults }
+
+        ensures unnamed { (IsUtf8 name.now → ⊥) → result ≡ Err KeepFault.Failed }
+    {
         let answer = write_file(&self.files, name.as_bytes(), bytes.as_slice());
         if let Err(KeepFault::Failed) = answer {
             self.put_faults = self.put_faults.saturating_add(1);
