@@ -1,0 +1,4 @@
+pub mod Counted
+pub mod Members
+pub mod StatementViews
+pub mod Views

@@ -1,0 +1,4 @@
+pub mod Counts
+pub mod Nodes
+pub mod Parts
+pub mod View
