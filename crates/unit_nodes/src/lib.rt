@@ -8,7 +8,7 @@ mod programs;
 mod statements;
 
 pub use expressions::push_expression;
-pub use laws::{laws_of_counts, laws_of_expressions};
+pub use laws::{laws_of_counts, laws_of_expressions, laws_of_programs};
 pub use node::{Asked, NodeList, NodeRef};
 pub use programs::{program_nodes, subprogram_nodes};
 pub use statements::push_statements;
