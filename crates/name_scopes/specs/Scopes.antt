@@ -1,13 +1,15 @@
 -- What is visible at a place, and what a name stands for there (Ada RM 8.2, 8.3, 8.4).
 use Rattle.std.specs.Prelude.{◌≡◌, ℕ, Bool, true, false, ◌&&◌, ◌||◌, ◌==◌, ◌++◌, nat_lt, List, [], ◌∷◌, find, Option, Some, None, if◌then◌else◌}
-use Rattle.name_scopes.specs.declared.events.Mode.{Mode}
-use Rattle.name_scopes.specs.declared.events.Mode.TheVariants as mode
-use Rattle.name_scopes.specs.declared.links.Fault.{Fault}
-use Rattle.name_scopes.specs.declared.links.Link.{Link}
-use Rattle.name_scopes.specs.declared.links.Link.TheVariants.{Declared, Predefined}
-use Rattle.name_scopes.specs.declared.links.Spot.{Spot}
-use Rattle.name_scopes.specs.declared.links.Usage.{Usage}
-use Rattle.name_scopes.specs.Library.{Export, Unit', contains, declaration_of, package_at, same_spot}
+use Rattle.name_library.specs.declared.events.Mode.{Mode}
+use Rattle.name_library.specs.declared.events.Mode.TheVariants as mode
+use Rattle.name_library.specs.declared.links.Fault.{Fault}
+use Rattle.name_library.specs.declared.links.Link.{Link}
+use Rattle.name_library.specs.declared.links.Link.TheVariants.{Declared, Predefined}
+use Rattle.name_library.specs.declared.links.Spot.{Spot}
+use Rattle.name_library.specs.declared.links.Usage.{Usage}
+use Rattle.name_library.specs.declared.library.Export.{Export}
+use Rattle.name_library.specs.declared.library.LibraryUnit.{LibraryUnit}
+use Rattle.name_library.specs.Library.{contains, declaration_of, package_at, same_spot}
 
 -- ---- what is declared
 
@@ -151,7 +153,7 @@ is_inside n (f ∷ fs) = is_owned_as n f.owner || is_inside n fs
 abbrev export_named : ℕ → List Export → Option Export
 export_named n = find (λ e. e.name == n)
 
-abbrev exports_of : Option Unit' → List Export
+abbrev exports_of : Option LibraryUnit → List Export
 exports_of None = []
 exports_of (Some u) = u.exports
 
@@ -160,7 +162,7 @@ link_list None = []
 link_list (Some e) = Declared e.spot ∷ []
 
 -- what packages in use clauses export under a name; the declarations of an enclosing package are visible anyway (Ada RM 8.4)
-abbrev pub offered : List Unit' → List Frame → ℕ → List ℕ → List Link
+abbrev pub offered : List LibraryUnit → List Frame → ℕ → List ℕ → List Link
 offered l fs n [] = []
 offered l fs n (m ∷ ms) = if is_inside m fs then offered l fs n ms else (link_list (export_named n (exports_of (declaration_of l m))) ++ offered l fs n ms)
 
@@ -190,16 +192,16 @@ standard_names = 29
 abbrev pub profile_names : ℕ
 profile_names = 7
 
-abbrev pub with_link : Option Unit' → Found
+abbrev pub with_link : Option LibraryUnit → Found
 with_link None = missing
 with_link (Some u) = found (Declared u.spot)
 
 -- what use clauses make visible under a name
-abbrev pub by_use : List Unit' → State → ℕ → List Link
+abbrev pub by_use : List LibraryUnit → State → ℕ → List Link
 by_use l s n = offered l s.frames n (all_used s.frames)
 
 -- outside all scopes: Standard, what with clauses name, then use clauses
-abbrev pub outside : List Unit' → State → ℕ → Found
+abbrev pub outside : List LibraryUnit → State → ℕ → Found
 outside l s n =
     if nat_lt n profile_names then found (Predefined n)
     else (if nat_lt n standard_names then missing
@@ -209,11 +211,11 @@ outside l s n =
 abbrev pub by_entry : Entry → Found
 by_entry e = if e.ended then found (Declared e.spot) else missing
 
-abbrev pub by_scopes : List Unit' → State → ℕ → Option Entry → Found
+abbrev pub by_scopes : List LibraryUnit → State → ℕ → Option Entry → Found
 by_scopes l s n (Some e) = by_entry e
 by_scopes l s n None = outside l s n
 
-abbrev pub meaning : List Unit' → State → ℕ → Found
+abbrev pub meaning : List LibraryUnit → State → ℕ → Found
 meaning l s n = by_scopes l s n (innermost n s.frames)
 
 -- no scope around the place declares the name, Standard has none of it, and no with clause names it
@@ -227,15 +229,15 @@ owns (Declared p) (of_package n q) = same_spot p q
 owns (Declared p) (of_subprogram n q r) = same_spot p q
 owns _ _ = false
 
-abbrev exports_at : List Unit' → Link → Option Unit' → Prefix
+abbrev exports_at : List LibraryUnit → Link → Option LibraryUnit → Prefix
 exports_at l a (Some u) = exported u.exports
 exports_at l a None = other
 
-abbrev by_library : List Unit' → Link → Prefix
+abbrev by_library : List LibraryUnit → Link → Prefix
 by_library l (Declared p) = exports_at l (Declared p) (package_at l p)
 by_library l (Predefined n) = other
 
-abbrev pub prefix_of : List Unit' → List Frame → Link → Prefix
+abbrev pub prefix_of : List LibraryUnit → List Frame → Link → Prefix
 prefix_of l [] a = by_library l a
 prefix_of l (f ∷ fs) a = if owns a f.owner then enclosing f.entries else prefix_of l fs a
 

@@ -1,27 +1,29 @@
 -- What each event does to what is visible, which links it makes, and which rules it breaks.
 use Rattle.std.specs.Prelude.{ℕ, Bool, true, false, not, ◌&&◌, ◌==◌, ◌++◌, List, [], ◌∷◌, map, find, Option, Some, None, fold, if◌then◌else◌}
-use Rattle.name_scopes.specs.declared.events.Event.{Event}
-use Rattle.name_scopes.specs.declared.events.Event.TheVariants as event
-use Rattle.name_scopes.specs.declared.events.Ident.{Ident}
-use Rattle.name_scopes.specs.declared.events.Kind.{Kind}
-use Rattle.name_scopes.specs.declared.events.Kind.TheVariants as kind
-use Rattle.name_scopes.specs.declared.events.Manner.{Manner}
-use Rattle.name_scopes.specs.declared.events.Manner.TheVariants as manner
-use Rattle.name_scopes.specs.declared.events.Mode.{Mode}
-use Rattle.name_scopes.specs.declared.events.Scope.{Scope}
-use Rattle.name_scopes.specs.declared.events.Scope.TheVariants as scope
-use Rattle.name_scopes.specs.declared.links.Link.{Link}
-use Rattle.name_scopes.specs.declared.links.Link.TheVariants.{Declared}
-use Rattle.name_scopes.specs.declared.links.NameFault.{NameFault}
-use Rattle.name_scopes.specs.declared.links.NameFault.TheVariants.{UnknownName, AmbiguousName, Duplicate, Overloaded, SpecMismatch, LeftOut}
-use Rattle.name_scopes.specs.declared.links.Spot.{Spot}
-use Rattle.name_scopes.specs.Library.{Unit', contains, declaration_of, package_at, package_declaration, is_part, spot_of}
+use Rattle.name_library.specs.declared.events.Event.{Event}
+use Rattle.name_library.specs.declared.events.Event.TheVariants as event
+use Rattle.name_library.specs.declared.events.Ident.{Ident}
+use Rattle.name_library.specs.declared.events.Kind.{Kind}
+use Rattle.name_library.specs.declared.events.Kind.TheVariants as kind
+use Rattle.name_library.specs.declared.events.Manner.{Manner}
+use Rattle.name_library.specs.declared.events.Manner.TheVariants as manner
+use Rattle.name_library.specs.declared.events.Mode.{Mode}
+use Rattle.name_library.specs.declared.events.Scope.{Scope}
+use Rattle.name_library.specs.declared.events.Scope.TheVariants as scope
+use Rattle.name_library.specs.declared.links.Link.{Link}
+use Rattle.name_library.specs.declared.links.Link.TheVariants.{Declared}
+use Rattle.name_library.specs.declared.links.NameFault.{NameFault}
+use Rattle.name_library.specs.declared.links.NameFault.TheVariants.{UnknownName, AmbiguousName, Duplicate, Overloaded, SpecMismatch, LeftOut}
+use Rattle.name_library.specs.declared.links.Spot.{Spot}
+use Rattle.name_library.specs.declared.library.LibraryUnit.{LibraryUnit}
+use Rattle.name_library.specs.declared.library.Part.TheVariants as part
+use Rattle.name_library.specs.Library.{contains, declaration_of, package_at, is_part, spot_of}
 use Rattle.name_scopes.specs.Scopes.{Formal, procedure, function, Profile, Sort, plain, literal, whole_package, subprogram, Entry, Owner, library_level, of_package, of_subprogram, block, Late, Frame, Prefix, other, State, same_link, same_profile, entry_of, Found, found, missing, several, meaning, prefix_of, member}
 
 -- the file's number, and the units of the program
 pub record Around : Type 0 where
   pub file : ℕ
-  pub units : List Unit'
+  pub units : List LibraryUnit
 
 -- ---- small changes
 
@@ -95,15 +97,15 @@ selected v i s (Some _) = broken v UnknownName i.at (unknown s)
 
 -- ---- with and use clauses (Ada RM 8.4, 10.1.2, 10.1.6)
 
-abbrev withed : Around → Ident → State → Option Unit' → State
+abbrev withed : Around → Ident → State → Option LibraryUnit → State
 withed v i s (Some u) = linked v i.at (Declared u.spot) (record s { withs = i.name ∷ s.withs; context = i.name ∷ s.context })
 withed v i s None = broken v UnknownName i.at s
 
-abbrev in_use : Around → Ident → State → Option Unit' → State
+abbrev in_use : Around → Ident → State → Option LibraryUnit → State
 in_use v i s (Some u) = linked v i.at (Declared u.spot) (on_top (λ f. record f { used = u.name ∷ f.used }) s)
 in_use v i s None = broken v UnknownName i.at s
 
-abbrev package_of : Around → Found → Option Unit'
+abbrev package_of : Around → Found → Option LibraryUnit
 package_of v (found (Declared p)) = package_at v.units p
 package_of v _ = None
 
@@ -111,11 +113,11 @@ abbrev used : Around → Ident → State → Found → State
 used v i s several = broken v AmbiguousName i.at s
 used v i s f = in_use v i s (package_of v f)
 
-abbrev declared_package : Option Unit' → Option Unit'
+abbrev declared_package : Option LibraryUnit → Option LibraryUnit
 declared_package None = None
-declared_package (Some u) = if is_part package_declaration u.part then Some u else None
+declared_package (Some u) = if is_part part.PackageDeclaration u.part then Some u else None
 
-abbrev context_package : Around → Ident → State → Option Unit'
+abbrev context_package : Around → Ident → State → Option LibraryUnit
 context_package v i s = if contains i.name s.context then declared_package (declaration_of v.units i.name) else None
 
 -- ---- declarations (Ada RM 3.1, 8.3)

@@ -1,12 +1,4 @@
-//! What the names of a program stand for, told from lists of events: the rules of declarations and visibility (Ada RM 8), with
-//! worked cases as laws.
+//! What is visible at each place of a program, and what a name stands for there (Ada RM 8).
 #![tactic(auto)]
 
-mod events;
-mod first;
 pub mod laws;
-mod links;
-
-pub use events::{Event, Ident, Kind, Manner, Mode, Scope};
-pub use first::{first_fault, is_before};
-pub use links::{Fault, Link, NameFault, Spot, Usage};

@@ -1,16 +1,16 @@
 -- Sample programs as events. Names: 30 P, 31 Q, 32 R, 40 A, 41 B, 42 C, 43 T, 44 F, 45 X; 3 is Integer and 7 is Float.
 use Rattle.std.specs.Prelude.{ℕ, Bool, true, false, List, [], ◌∷◌, ◌++◌, ◌+◌}
-use Rattle.name_scopes.specs.declared.events.Event.{Event}
-use Rattle.name_scopes.specs.declared.events.Event.TheVariants as event
-use Rattle.name_scopes.specs.declared.events.Ident.{Ident}
-use Rattle.name_scopes.specs.declared.events.Kind.TheVariants as kind
-use Rattle.name_scopes.specs.declared.events.Manner.TheVariants as manner
-use Rattle.name_scopes.specs.declared.events.Mode.TheVariants as mode
-use Rattle.name_scopes.specs.declared.events.Scope.TheVariants as scope
-use Rattle.name_scopes.specs.declared.links.Link.TheVariants.{Declared, Predefined}
-use Rattle.name_scopes.specs.declared.links.NameFault.{NameFault}
-use Rattle.name_scopes.specs.declared.links.Usage.{Usage}
-use Rattle.name_scopes.specs.Faults.{Answer, refused}
+use Rattle.name_library.specs.declared.events.Event.{Event}
+use Rattle.name_library.specs.declared.events.Event.TheVariants as event
+use Rattle.name_library.specs.declared.events.Ident.{Ident}
+use Rattle.name_library.specs.declared.events.Kind.TheVariants as kind
+use Rattle.name_library.specs.declared.events.Manner.TheVariants as manner
+use Rattle.name_library.specs.declared.events.Mode.TheVariants as mode
+use Rattle.name_library.specs.declared.events.Scope.TheVariants as scope
+use Rattle.name_library.specs.declared.links.Link.TheVariants.{Declared, Predefined}
+use Rattle.name_library.specs.declared.links.NameFault.{NameFault}
+use Rattle.name_library.specs.declared.links.Usage.{Usage}
+use Rattle.name_rules.specs.Faults.{Answer, refused}
 
 abbrev pub id : ℕ → ℕ → Ident
 id n at = record { name = n; at = at }

@@ -2,8 +2,8 @@
 use Rattle.std.proofs.Common.{◌≡◌, refl, sym, subst, Bool, true, false, inl, inr, List, [], ◌∷◌, Option, Some, None, arith}
 use Rattle.std.proofs.lemmas.Bool.Decides.{nat_tests}
 use Rattle.std.specs.Prelude.{if◌then◌else◌}
-use Rattle.name_scopes.specs.declared.links.Fault.{Fault}
-use Rattle.name_scopes.specs.Faults.{is_before, first_of, lesser, NoneBefore, IsFirst}
+use Rattle.name_library.specs.declared.links.Fault.{Fault}
+use Rattle.name_rules.specs.Faults.{is_before, first_of, lesser, NoneBefore, IsFirst}
 
 never_before_itself : (f : Fault) → is_before f f ≡ false
 never_before_itself f = grind (arith, nat_tests)

@@ -1,9 +1,9 @@
 //! The first of several broken rules.
 
 ghost use Rattle.std.specs.Prelude.{◌≡◌};
-ghost use Rattle.name_scopes.specs.Faults.{first_of, is_before, lesser, rule_number};
+ghost use Rattle.name_rules.specs.Faults.{first_of, is_before, lesser, rule_number};
 
-use crate::links::{Fault, NameFault};
+use name_library::{Fault, NameFault};
 
 /// Which of two rules that are broken at one place is told: that of the lesser number.
 fn rule_number(rule: NameFault) -> u8

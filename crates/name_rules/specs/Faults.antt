@@ -1,13 +1,16 @@
 -- All broken rules of names of a program, one line a demand, and its answer: the first of them, or all links.
 use Rattle.std.specs.Prelude.{◌≡◌, ℕ, Bool, true, false, not, ◌&&◌, ◌||◌, ◌==◌, ◌-◌, ◌++◌, ◌⊎◌, nat_lt, List, [], ◌∷◌, reverse, Option, Some, None, is_some, if◌then◌else◌}
-use Rattle.name_scopes.specs.declared.events.Event.{Event}
-use Rattle.name_scopes.specs.declared.events.Ident.{Ident}
-use Rattle.name_scopes.specs.declared.links.Fault.{Fault}
-use Rattle.name_scopes.specs.declared.links.NameFault.{NameFault}
-use Rattle.name_scopes.specs.declared.links.NameFault.TheVariants as rule
-use Rattle.name_scopes.specs.declared.links.Spot.{Spot}
-use Rattle.name_scopes.specs.declared.links.Usage.{Usage}
-use Rattle.name_scopes.specs.Library.{Unit', Part, package_declaration, package_body, subprogram_declaration, subprogram_body, declaration_of, goes_with, leads_back, library, spot_of, unit_as}
+use Rattle.name_library.specs.declared.events.Event.{Event}
+use Rattle.name_library.specs.declared.events.Ident.{Ident}
+use Rattle.name_library.specs.declared.links.Fault.{Fault}
+use Rattle.name_library.specs.declared.links.NameFault.{NameFault}
+use Rattle.name_library.specs.declared.links.NameFault.TheVariants as rule
+use Rattle.name_library.specs.declared.links.Spot.{Spot}
+use Rattle.name_library.specs.declared.links.Usage.{Usage}
+use Rattle.name_library.specs.declared.library.LibraryUnit.{LibraryUnit}
+use Rattle.name_library.specs.declared.library.Part.TheVariants as part
+use Rattle.name_library.specs.declared.library.Part.{Part}
+use Rattle.name_library.specs.Library.{declaration_of, goes_with, leads_back, library, spot_of, unit_as}
 use Rattle.name_scopes.specs.Scopes.{Entry, Frame, Sort, subprogram, State, standard_names}
 use Rattle.name_scopes.specs.Steps.{Around, after, carried, start}
 
@@ -22,49 +25,49 @@ unless false r p = fault r p ∷ []
 -- ---- demands on units (Ada RM 7.2, 10.1.1, 10.1.2)
 
 -- library units are declared within Standard, where its own names stand
-abbrev pub not_standard : Unit' → List Fault
+abbrev pub not_standard : LibraryUnit → List Fault
 not_standard u = unless (not (nat_lt u.name standard_names)) rule.Duplicate u.spot
 
-abbrev is_other : Unit' → Unit' → Bool
+abbrev is_other : LibraryUnit → LibraryUnit → Bool
 is_other u v = not (u.name == v.name) || goes_with u.part v.part
 
-abbrev all_other : List Unit' → Unit' → Bool
+abbrev all_other : List LibraryUnit → LibraryUnit → Bool
 all_other [] u = true
 all_other (v ∷ vs) u = is_other v u && all_other vs u
 
 -- of the units before it none has its name but the declaration for a body, or the body for a declaration
-abbrev pub not_twice : List Unit' → Unit' → List Fault
+abbrev pub not_twice : List LibraryUnit → LibraryUnit → List Fault
 not_twice before u = unless (all_other before u) rule.Duplicate u.spot
 
 -- a body of a package has its declaration
-abbrev has_declaration : List Unit' → Unit' → Part → Bool
-has_declaration l u package_body = is_some (unit_as package_declaration u.name l)
+abbrev has_declaration : List LibraryUnit → LibraryUnit → Part → Bool
+has_declaration l u part.PackageBody = is_some (unit_as part.PackageDeclaration u.name l)
 has_declaration l u _ = true
 
-abbrev pub declared_before : List Unit' → Unit' → List Fault
+abbrev pub declared_before : List LibraryUnit → LibraryUnit → List Fault
 declared_before l u = unless (has_declaration l u u.part) rule.UnknownName u.spot
 
 -- the declaration of a library subprogram has its body
-abbrev has_body : List Unit' → Unit' → Part → Bool
-has_body l u subprogram_declaration = is_some (unit_as subprogram_body u.name l)
+abbrev has_body : List LibraryUnit → LibraryUnit → Part → Bool
+has_body l u part.SubprogramDeclaration = is_some (unit_as part.SubprogramBody u.name l)
 has_body l u _ = true
 
-abbrev pub with_its_body : List Unit' → Unit' → List Fault
+abbrev pub with_its_body : List LibraryUnit → LibraryUnit → List Fault
 with_its_body l u = unless (has_body l u u.part) rule.MissingBody u.spot
 
-abbrev circle : List Unit' → ℕ → Ident → Option Unit' → List Fault
+abbrev circle : List LibraryUnit → ℕ → Ident → Option LibraryUnit → List Fault
 circle l file i None = []
 circle l file i (Some v) = unless (not (leads_back l (v.spot.file ∷ []) file)) rule.WithCycle (spot_of file i)
 
 -- no chain of with clauses leads from what it withs back to it
-abbrev pub circles : List Unit' → ℕ → List Ident → List Fault
+abbrev pub circles : List LibraryUnit → ℕ → List Ident → List Fault
 circles l file [] = []
 circles l file (i ∷ more) = circle l file i (declaration_of l i.name) ++ circles l file more
 
-abbrev unit_faults : List Unit' → List Unit' → Unit' → List Fault
+abbrev unit_faults : List LibraryUnit → List LibraryUnit → LibraryUnit → List Fault
 unit_faults l before u = not_standard u ++ not_twice before u ++ declared_before l u ++ with_its_body l u ++ circles l u.spot.file u.withs
 
-abbrev all_units : List Unit' → List Unit' → List Unit' → List Fault
+abbrev all_units : List LibraryUnit → List LibraryUnit → List LibraryUnit → List Fault
 all_units l before [] = []
 all_units l before (u ∷ us) = unit_faults l before u ++ all_units l (before ++ u ∷ []) us
 
@@ -91,7 +94,7 @@ abbrev has_subprogram : List Entry → Bool
 has_subprogram [] = false
 has_subprogram (e ∷ es) = is_subprogram e.sort || has_subprogram es
 
-abbrev around : List Unit' → ℕ → Around
+abbrev around : List LibraryUnit → ℕ → Around
 around l file = record { file = file; units = l }
 
 abbrev events_of : List (List Event) → ℕ → List Event
@@ -99,42 +102,42 @@ events_of [] n = []
 events_of (es ∷ ess) n = if n == 0 then es else events_of ess (n - 1)
 
 -- what stands at the end of the declaration of a unit
-abbrev declared_state : List (List Event) → List Unit' → Unit' → State
+abbrev declared_state : List (List Event) → List LibraryUnit → LibraryUnit → State
 declared_state files l u = after (around l u.spot.file) start (events_of files u.spot.file)
 
-abbrev carried_state : List (List Event) → List Unit' → Option Unit' → State
+abbrev carried_state : List (List Event) → List LibraryUnit → Option LibraryUnit → State
 carried_state files l None = start
 carried_state files l (Some u) = carried (declared_state files l u)
 
 -- what a unit begins with: a body goes on where its declaration ends
-abbrev pub opening : List (List Event) → List Unit' → Unit' → Part → State
-opening files l u package_body = carried_state files l (unit_as package_declaration u.name l)
-opening files l u subprogram_body = carried_state files l (unit_as subprogram_declaration u.name l)
+abbrev pub opening : List (List Event) → List LibraryUnit → LibraryUnit → Part → State
+opening files l u part.PackageBody = carried_state files l (unit_as part.PackageDeclaration u.name l)
+opening files l u part.SubprogramBody = carried_state files l (unit_as part.SubprogramDeclaration u.name l)
 opening files l u _ = start
 
-abbrev pub state_of : List (List Event) → List Unit' → Unit' → State
+abbrev pub state_of : List (List Event) → List LibraryUnit → LibraryUnit → State
 state_of files l u = after (around l u.spot.file) (opening files l u u.part) (events_of files u.spot.file)
 
 -- a package without its body declares no subprogram
-abbrev without_body : Unit' → List Entry → Option Unit' → List Fault
+abbrev without_body : LibraryUnit → List Entry → Option LibraryUnit → List Fault
 without_body u es (Some v) = []
 without_body u es None = unless (not (has_subprogram es)) rule.MissingBody u.spot ++ bodies es
 
 -- a package that declares no subprogram has no body (Ada RM 7.2)
-abbrev wanted_body : Unit' → List Entry → Option Unit' → List Fault
+abbrev wanted_body : LibraryUnit → List Entry → Option LibraryUnit → List Fault
 wanted_body u es None = []
 wanted_body u es (Some v) = unless (has_subprogram es) rule.SpecMismatch u.spot
 
-abbrev end_faults : List (List Event) → List Unit' → Unit' → Part → State → List Fault
-end_faults files l u package_declaration s = without_body u (top_entries s.frames) (unit_as package_body u.name l)
-end_faults files l u package_body s =
-    wanted_body u (top_entries (opening files l u package_body).frames) (unit_as package_declaration u.name l) ++ bodies (top_entries s.frames)
+abbrev end_faults : List (List Event) → List LibraryUnit → LibraryUnit → Part → State → List Fault
+end_faults files l u part.PackageDeclaration s = without_body u (top_entries s.frames) (unit_as part.PackageBody u.name l)
+end_faults files l u part.PackageBody s =
+    wanted_body u (top_entries (opening files l u part.PackageBody).frames) (unit_as part.PackageDeclaration u.name l) ++ bodies (top_entries s.frames)
 end_faults files l u _ s = []
 
-abbrev file_faults : List (List Event) → List Unit' → Unit' → State → List Fault
+abbrev file_faults : List (List Event) → List LibraryUnit → LibraryUnit → State → List Fault
 file_faults files l u s = s.faults ++ end_faults files l u u.part s
 
-abbrev all_files : List (List Event) → List Unit' → List Unit' → List Fault
+abbrev all_files : List (List Event) → List LibraryUnit → List LibraryUnit → List Fault
 all_files files l [] = []
 all_files files l (u ∷ us) = file_faults files l u (state_of files l u) ++ all_files files l us
 
@@ -186,7 +189,7 @@ IsFirst (Some f) fs = IsIn f fs × NoneBefore f fs
 
 -- ---- the answer
 
-abbrev all_usages : List (List Event) → List Unit' → List Unit' → List Usage
+abbrev all_usages : List (List Event) → List LibraryUnit → List LibraryUnit → List Usage
 all_usages files l [] = []
 all_usages files l (u ∷ us) = reverse (state_of files l u).usages ++ all_usages files l us
 
