@@ -5,10 +5,14 @@ use Rattle.ada_tree.specs.declared.rules.Rule.{Rule}
 use Rattle.ada_tree.specs.declared.rules.Rule.TheVariants as rule
 use Rattle.ada_tree.specs.declared.rules.ContextRule.{ContextRule}
 use Rattle.ada_tree.specs.declared.rules.ContextRule.TheVariants as context'
+use Rattle.ada_tree.specs.declared.rules.ClauseRule.{ClauseRule}
+use Rattle.ada_tree.specs.declared.rules.ClauseRule.TheVariants as clause'
 use Rattle.ada_tree.specs.declared.rules.NamesRule.{NamesRule}
 use Rattle.ada_tree.specs.declared.rules.NamesRule.TheVariants as names'
 use Rattle.ada_tree.specs.declared.rules.UnitRule.{UnitRule}
 use Rattle.ada_tree.specs.declared.rules.UnitRule.TheVariants as unit'
+use Rattle.ada_tree.specs.declared.rules.PackageRule.{PackageRule}
+use Rattle.ada_tree.specs.declared.rules.PackageRule.TheVariants as package'
 use Rattle.ada_tree.specs.declared.rules.DeclarationRule.{DeclarationRule}
 use Rattle.ada_tree.specs.declared.rules.DeclarationRule.TheVariants as declaration'
 use Rattle.ada_tree.specs.declared.rules.OtherDeclarationRule.{OtherDeclarationRule}
@@ -17,12 +21,16 @@ use Rattle.ada_tree.specs.declared.rules.ObjectRule.{ObjectRule}
 use Rattle.ada_tree.specs.declared.rules.ObjectRule.TheVariants as object'
 use Rattle.ada_tree.specs.declared.rules.TypeFormRule.{TypeFormRule}
 use Rattle.ada_tree.specs.declared.rules.TypeFormRule.TheVariants as type_form'
+use Rattle.ada_tree.specs.declared.rules.CompositeRule.{CompositeRule}
+use Rattle.ada_tree.specs.declared.rules.CompositeRule.TheVariants as composite'
 use Rattle.ada_tree.specs.declared.rules.IndexRule.{IndexRule}
 use Rattle.ada_tree.specs.declared.rules.IndexRule.TheVariants as index'
 use Rattle.ada_tree.specs.declared.rules.SubtypeRule.{SubtypeRule}
 use Rattle.ada_tree.specs.declared.rules.SubtypeRule.TheVariants as subtype'
 use Rattle.ada_tree.specs.declared.rules.SubprogramRule.{SubprogramRule}
 use Rattle.ada_tree.specs.declared.rules.SubprogramRule.TheVariants as subprogram'
+use Rattle.ada_tree.specs.declared.rules.BodyRule.{BodyRule}
+use Rattle.ada_tree.specs.declared.rules.BodyRule.TheVariants as body'
 use Rattle.ada_tree.specs.declared.rules.ParamRule.{ParamRule}
 use Rattle.ada_tree.specs.declared.rules.ParamRule.TheVariants as param'
 use Rattle.ada_tree.specs.declared.rules.ModeRule.{ModeRule}
@@ -39,10 +47,14 @@ use Rattle.ada_tree.specs.declared.rules.ChoiceRule.{ChoiceRule}
 use Rattle.ada_tree.specs.declared.rules.ChoiceRule.TheVariants as choice'
 use Rattle.ada_tree.specs.declared.rules.LoopRule.{LoopRule}
 use Rattle.ada_tree.specs.declared.rules.LoopRule.TheVariants as loop'
+use Rattle.ada_tree.specs.declared.rules.DirectionRule.{DirectionRule}
+use Rattle.ada_tree.specs.declared.rules.DirectionRule.TheVariants as direction'
 use Rattle.ada_tree.specs.declared.rules.OptionalRule.{OptionalRule}
 use Rattle.ada_tree.specs.declared.rules.OptionalRule.TheVariants as optional'
 use Rattle.ada_tree.specs.declared.rules.ItemRule.{ItemRule}
 use Rattle.ada_tree.specs.declared.rules.ItemRule.TheVariants as item'
+use Rattle.ada_tree.specs.declared.rules.ConditionalRule.{ConditionalRule}
+use Rattle.ada_tree.specs.declared.rules.ConditionalRule.TheVariants as conditional'
 use Rattle.ada_tree.specs.declared.rules.ArgsRule.{ArgsRule}
 use Rattle.ada_tree.specs.declared.rules.ArgsRule.TheVariants as args'
 use Rattle.ada_tree.specs.declared.rules.ArgRule.{ArgRule}
@@ -61,28 +73,32 @@ use Rattle.ada_tree.specs.declared.rules.AttributeRule.{AttributeRule}
 use Rattle.ada_tree.specs.declared.rules.AttributeRule.TheVariants as attribute'
 use Rattle.ada_tree.specs.Declarations.{declaration_rule, object_rule, other_declaration_rule}
 use Rattle.ada_tree.specs.Expressions.{logic_rule, operation_rule, relation_rule}
-use Rattle.ada_tree.specs.Items.{arg_rule, args_rule, item_rule, optional_rule}
+use Rattle.ada_tree.specs.Items.{arg_rule, args_rule, conditional_rule, item_rule, optional_rule}
 use Rattle.ada_tree.specs.Names.{attribute_rule, name_rule, primary_rule}
-use Rattle.ada_tree.specs.Statements.{case_rule, choice_rule, if_rule, loop_rule, statement_rule}
-use Rattle.ada_tree.specs.Subprograms.{aspect_rule, mode_rule, param_rule, subprogram_rule}
-use Rattle.ada_tree.specs.Types.{index_rule, subtype_rule, type_form_rule}
-use Rattle.ada_tree.specs.Units.{context_rule, names_rule, unit_rule}
+use Rattle.ada_tree.specs.Statements.{case_rule, choice_rule, direction_rule, if_rule, loop_rule, statement_rule}
+use Rattle.ada_tree.specs.Subprograms.{aspect_rule, body_rule, mode_rule, param_rule, subprogram_rule}
+use Rattle.ada_tree.specs.Types.{composite_rule, index_rule, subtype_rule, type_form_rule}
+use Rattle.ada_tree.specs.Units.{clause_rule, context_rule, names_rule, package_rule, unit_rule}
 use Rattle.ada_tree.specs.Made.{made}
 use Rattle.tree_parts.specs.Parts.{after, first}
 
 abbrev pub context_arity : ContextRule → ℕ
 context_arity context'.File = 2
-context_arity context'.ContextWith = 5
-context_arity context'.ContextUse = 5
 context_arity context'.ContextPragma = 2
 context_arity context'.NoContext = 0
 
 context_made : (r : ContextRule) (s : List Part) → context_rule r s ≡ first (context_rule r s) ∷ after (context_arity r) s
 context_made context'.File s = refl
-context_made context'.ContextWith s = refl
-context_made context'.ContextUse s = refl
 context_made context'.ContextPragma s = refl
 context_made context'.NoContext s = refl
+
+abbrev pub clause_arity : ClauseRule → ℕ
+clause_arity clause'.ContextWith = 5
+clause_arity clause'.ContextUse = 5
+
+clause_made : (r : ClauseRule) (s : List Part) → clause_rule r s ≡ first (clause_rule r s) ∷ after (clause_arity r) s
+clause_made clause'.ContextWith s = refl
+clause_made clause'.ContextUse s = refl
 
 abbrev pub names_arity : NamesRule → ℕ
 names_arity names'.Names = 3
@@ -99,18 +115,22 @@ names_made names'.NoEndName s = refl
 abbrev pub unit_arity : UnitRule → ℕ
 unit_arity unit'.UnitPackage = 2
 unit_arity unit'.UnitSub = 1
-unit_arity unit'.PackageBody = 8
-unit_arity unit'.PackageSpec = 8
 unit_arity unit'.SomePrivate = 2
 unit_arity unit'.NoPrivate = 0
 
 unit_made : (r : UnitRule) (s : List Part) → unit_rule r s ≡ first (unit_rule r s) ∷ after (unit_arity r) s
 unit_made unit'.UnitPackage s = refl
 unit_made unit'.UnitSub s = refl
-unit_made unit'.PackageBody s = refl
-unit_made unit'.PackageSpec s = refl
 unit_made unit'.SomePrivate s = refl
 unit_made unit'.NoPrivate s = refl
+
+abbrev pub package_arity : PackageRule → ℕ
+package_arity package'.PackageBody = 8
+package_arity package'.PackageSpec = 8
+
+package_made : (r : PackageRule) (s : List Part) → package_rule r s ≡ first (package_rule r s) ∷ after (package_arity r) s
+package_made package'.PackageBody s = refl
+package_made package'.PackageSpec s = refl
 
 abbrev pub declaration_arity : DeclarationRule → ℕ
 declaration_arity declaration'.Decls = 2
@@ -150,17 +170,21 @@ abbrev pub type_form_arity : TypeFormRule → ℕ
 type_form_arity type_form'.Range = 4
 type_form_arity type_form'.Modular = 2
 type_form_arity type_form'.Enumeration = 4
-type_form_arity type_form'.Array = 6
-type_form_arity type_form'.Record = 5
 type_form_arity type_form'.Derived = 2
 
 type_form_made : (r : TypeFormRule) (s : List Part) → type_form_rule r s ≡ first (type_form_rule r s) ∷ after (type_form_arity r) s
 type_form_made type_form'.Range s = refl
 type_form_made type_form'.Modular s = refl
 type_form_made type_form'.Enumeration s = refl
-type_form_made type_form'.Array s = refl
-type_form_made type_form'.Record s = refl
 type_form_made type_form'.Derived s = refl
+
+abbrev pub composite_arity : CompositeRule → ℕ
+composite_arity composite'.Array = 6
+composite_arity composite'.Record = 5
+
+composite_made : (r : CompositeRule) (s : List Part) → composite_rule r s ≡ first (composite_rule r s) ∷ after (composite_arity r) s
+composite_made composite'.Array s = refl
+composite_made composite'.Record s = refl
 
 abbrev pub index_arity : IndexRule → ℕ
 index_arity index'.Index = 2
@@ -195,14 +219,18 @@ subtype_made subtype'.NoBounds s = refl
 abbrev pub subprogram_arity : SubprogramRule → ℕ
 subprogram_arity subprogram'.Procedure = 5
 subprogram_arity subprogram'.Function = 7
-subprogram_arity subprogram'.NoBody = 1
-subprogram_arity subprogram'.SomeBody = 7
 
 subprogram_made : (r : SubprogramRule) (s : List Part) → subprogram_rule r s ≡ first (subprogram_rule r s) ∷ after (subprogram_arity r) s
 subprogram_made subprogram'.Procedure s = refl
 subprogram_made subprogram'.Function s = refl
-subprogram_made subprogram'.NoBody s = refl
-subprogram_made subprogram'.SomeBody s = refl
+
+abbrev pub body_arity : BodyRule → ℕ
+body_arity body'.NoBody = 1
+body_arity body'.SomeBody = 7
+
+body_made : (r : BodyRule) (s : List Part) → body_rule r s ≡ first (body_rule r s) ∷ after (body_arity r) s
+body_made body'.NoBody s = refl
+body_made body'.SomeBody s = refl
 
 abbrev pub param_arity : ParamRule → ℕ
 param_arity param'.ParamGroup = 4
@@ -297,16 +325,20 @@ loop_arity loop'.Loop = 6
 loop_arity loop'.While = 2
 loop_arity loop'.For = 5
 loop_arity loop'.Forever = 0
-loop_arity loop'.Reverse = 1
-loop_arity loop'.Forward = 0
 
 loop_made : (r : LoopRule) (s : List Part) → loop_rule r s ≡ first (loop_rule r s) ∷ after (loop_arity r) s
 loop_made loop'.Loop s = refl
 loop_made loop'.While s = refl
 loop_made loop'.For s = refl
 loop_made loop'.Forever s = refl
-loop_made loop'.Reverse s = refl
-loop_made loop'.Forward s = refl
+
+abbrev pub direction_arity : DirectionRule → ℕ
+direction_arity direction'.Reverse = 1
+direction_arity direction'.Forward = 0
+
+direction_made : (r : DirectionRule) (s : List Part) → direction_rule r s ≡ first (direction_rule r s) ∷ after (direction_arity r) s
+direction_made direction'.Reverse s = refl
+direction_made direction'.Forward s = refl
 
 abbrev pub optional_arity : OptionalRule → ℕ
 optional_arity optional'.SomeExprAfter = 2
@@ -326,17 +358,21 @@ abbrev pub item_arity : ItemRule → ℕ
 item_arity item'.Range = 2
 item_arity item'.Plain = 1
 item_arity item'.Quantified = 7
-item_arity item'.If = 6
-item_arity item'.Arms = 5
-item_arity item'.NoArms = 0
 
 item_made : (r : ItemRule) (s : List Part) → item_rule r s ≡ first (item_rule r s) ∷ after (item_arity r) s
 item_made item'.Range s = refl
 item_made item'.Plain s = refl
 item_made item'.Quantified s = refl
-item_made item'.If s = refl
-item_made item'.Arms s = refl
-item_made item'.NoArms s = refl
+
+abbrev pub conditional_arity : ConditionalRule → ℕ
+conditional_arity conditional'.If = 6
+conditional_arity conditional'.Arms = 5
+conditional_arity conditional'.NoArms = 0
+
+conditional_made : (r : ConditionalRule) (s : List Part) → conditional_rule r s ≡ first (conditional_rule r s) ∷ after (conditional_arity r) s
+conditional_made conditional'.If s = refl
+conditional_made conditional'.Arms s = refl
+conditional_made conditional'.NoArms s = refl
 
 abbrev pub args_arity : ArgsRule → ℕ
 args_arity args'.ArgGroup = 3
@@ -446,15 +482,19 @@ abbrev pub arity : Rule → ℕ
 arity rule.Same = 1
 arity rule.AfterWord = 2
 arity (rule.Context r) = context_arity r
+arity (rule.Clause r) = clause_arity r
 arity (rule.Names r) = names_arity r
 arity (rule.Unit r) = unit_arity r
+arity (rule.Package r) = package_arity r
 arity (rule.Declaration r) = declaration_arity r
 arity (rule.OtherDeclaration r) = other_declaration_arity r
 arity (rule.Object r) = object_arity r
 arity (rule.TypeForm r) = type_form_arity r
+arity (rule.Composite r) = composite_arity r
 arity (rule.Index r) = index_arity r
 arity (rule.Subtype r) = subtype_arity r
 arity (rule.Subprogram r) = subprogram_arity r
+arity (rule.Body r) = body_arity r
 arity (rule.Param r) = param_arity r
 arity (rule.Mode r) = mode_arity r
 arity (rule.Aspect r) = aspect_arity r
@@ -463,8 +503,10 @@ arity (rule.If r) = if_arity r
 arity (rule.Case r) = case_arity r
 arity (rule.Choice r) = choice_arity r
 arity (rule.Loop r) = loop_arity r
+arity (rule.Direction r) = direction_arity r
 arity (rule.Optional r) = optional_arity r
 arity (rule.Item r) = item_arity r
+arity (rule.Conditional r) = conditional_arity r
 arity (rule.Args r) = args_arity r
 arity (rule.Arg r) = arg_arity r
 arity (rule.Logic r) = logic_arity r
@@ -482,15 +524,19 @@ made_one rule.AfterWord [] h = absurd (omega arith)
 made_one rule.AfterWord (p ∷ []) h = absurd (omega arith)
 made_one rule.AfterWord (p ∷ q ∷ ps) h = refl
 made_one (rule.Context r) s h = context_made r s
+made_one (rule.Clause r) s h = clause_made r s
 made_one (rule.Names r) s h = names_made r s
 made_one (rule.Unit r) s h = unit_made r s
+made_one (rule.Package r) s h = package_made r s
 made_one (rule.Declaration r) s h = declaration_made r s
 made_one (rule.OtherDeclaration r) s h = other_declaration_made r s
 made_one (rule.Object r) s h = object_made r s
 made_one (rule.TypeForm r) s h = type_form_made r s
+made_one (rule.Composite r) s h = composite_made r s
 made_one (rule.Index r) s h = index_made r s
 made_one (rule.Subtype r) s h = subtype_made r s
 made_one (rule.Subprogram r) s h = subprogram_made r s
+made_one (rule.Body r) s h = body_made r s
 made_one (rule.Param r) s h = param_made r s
 made_one (rule.Mode r) s h = mode_made r s
 made_one (rule.Aspect r) s h = aspect_made r s
@@ -499,8 +545,10 @@ made_one (rule.If r) s h = if_made r s
 made_one (rule.Case r) s h = case_made r s
 made_one (rule.Choice r) s h = choice_made r s
 made_one (rule.Loop r) s h = loop_made r s
+made_one (rule.Direction r) s h = direction_made r s
 made_one (rule.Optional r) s h = optional_made r s
 made_one (rule.Item r) s h = item_made r s
+made_one (rule.Conditional r) s h = conditional_made r s
 made_one (rule.Args r) s h = args_made r s
 made_one (rule.Arg r) s h = arg_made r s
 made_one (rule.Logic r) s h = logic_made r s

@@ -9,6 +9,7 @@ use Rattle.grammar_table.specs.declared.symbols.Terminal.TheVariants as terminal
 use Rattle.ada_tree.specs.declared.rules.ArgRule.TheVariants as ArgRule'
 use Rattle.ada_tree.specs.declared.rules.ArgsRule.TheVariants as ArgsRule'
 use Rattle.ada_tree.specs.declared.rules.ItemRule.TheVariants as ItemRule'
+use Rattle.ada_tree.specs.declared.rules.ConditionalRule.TheVariants as ConditionalRule'
 use Rattle.ada_tree.specs.declared.rules.OptionalRule.TheVariants as OptionalRule'
 use Rattle.ada_tree.specs.declared.rules.Rule.TheVariants as rule
 use Rattle.tree_parts.specs.Parts.{◌!◌, arg_tail_of, expr_of, token_of}
@@ -47,7 +48,7 @@ unfolding productions
 law_109 ps f = (flat7 (token_text ((terminal.Word res.For)) (token_of (ps ! 0))) (text non.AllSome (ps ! 1)) (token_text (terminal.Identifier) (token_of (ps ! 2))) (token_text ((terminal.Word res.In)) (token_of (ps ! 3))) (text non.Range (ps ! 4)) (token_text ((terminal.Mark del.Arrow)) (token_of (ps ! 5))) (text non.Expr (ps ! 6)), tt)
 
 -- Cond = if Expr then Expr IfMore IfElse
-pub law_110 : Law non.Cond (right_of productions 110) (rule.Item ItemRule'.If)
+pub law_110 : Law non.Cond (right_of productions 110) (rule.Conditional ConditionalRule'.If)
 unfolding productions
 law_110 ps f = (simp (append_assoc, append-nil), tt)
 
@@ -62,12 +63,12 @@ unfolding productions
 law_112 ps f = (quantifier_text (token_of (ps ! 0)).kind ((terminal.Word res.Some)) f.0, tt)
 
 -- IfMore = elsif Expr then Expr IfMore
-pub law_113 : Law non.IfMore (right_of productions 113) (rule.Item ItemRule'.Arms)
+pub law_113 : Law non.IfMore (right_of productions 113) (rule.Conditional ConditionalRule'.Arms)
 unfolding productions
 law_113 ps f = (branch5 (token_text ((terminal.Word res.Elsif)) (token_of (ps ! 0))) (text non.Expr (ps ! 1)) (token_text ((terminal.Word res.Then)) (token_of (ps ! 2))) (text non.Expr (ps ! 3)) (text non.IfMore (ps ! 4)), tt)
 
 -- IfMore =
-pub law_114 : Law non.IfMore (right_of productions 114) (rule.Item ItemRule'.NoArms)
+pub law_114 : Law non.IfMore (right_of productions 114) (rule.Conditional ConditionalRule'.NoArms)
 unfolding productions
 law_114 ps f = (refl, tt)
 

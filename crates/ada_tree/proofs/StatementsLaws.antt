@@ -11,6 +11,7 @@ use Rattle.ada_tree.specs.declared.rules.CaseRule.TheVariants as CaseRule'
 use Rattle.ada_tree.specs.declared.rules.IfRule.TheVariants as IfRule'
 use Rattle.ada_tree.specs.declared.rules.ChoiceRule.TheVariants as ChoiceRule'
 use Rattle.ada_tree.specs.declared.rules.LoopRule.TheVariants as LoopRule'
+use Rattle.ada_tree.specs.declared.rules.DirectionRule.TheVariants as DirectionRule'
 use Rattle.ada_tree.specs.declared.rules.OptionalRule.TheVariants as OptionalRule'
 use Rattle.ada_tree.specs.declared.rules.StatementRule.TheVariants as StatementRule'
 use Rattle.ada_tree.specs.declared.rules.Rule.TheVariants as rule
@@ -155,12 +156,12 @@ unfolding productions
 law_97 ps f = (refl, tt)
 
 -- Rev = reverse
-pub law_98 : Law non.Rev (right_of productions 98) (rule.Loop LoopRule'.Reverse)
+pub law_98 : Law non.Rev (right_of productions 98) (rule.Direction DirectionRule'.Reverse)
 unfolding productions
 law_98 ps f = (simp append-nil, tt)
 
 -- Rev =
-pub law_99 : Law non.Rev (right_of productions 99) (rule.Loop LoopRule'.Forward)
+pub law_99 : Law non.Rev (right_of productions 99) (rule.Direction DirectionRule'.Forward)
 unfolding productions
 law_99 ps f = (refl, tt)
 

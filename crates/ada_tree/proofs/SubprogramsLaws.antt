@@ -11,6 +11,7 @@ use Rattle.ada_tree.specs.declared.rules.ModeRule.TheVariants as ModeRule'
 use Rattle.ada_tree.specs.declared.rules.OptionalRule.TheVariants as OptionalRule'
 use Rattle.ada_tree.specs.declared.rules.ParamRule.TheVariants as ParamRule'
 use Rattle.ada_tree.specs.declared.rules.SubprogramRule.TheVariants as SubprogramRule'
+use Rattle.ada_tree.specs.declared.rules.BodyRule.TheVariants as BodyRule'
 use Rattle.ada_tree.specs.declared.rules.Rule.TheVariants as rule
 use Rattle.tree_parts.specs.Parts.{◌!◌, args_of, mode_of, token_of}
 use Rattle.ada_tree.proofs.Joins.{flat3, flat5}
@@ -78,12 +79,12 @@ unfolding productions
 law_58 ps f = (refl, tt)
 
 -- Body = ;
-pub law_59 : Law non.Body (right_of productions 59) (rule.Subprogram SubprogramRule'.NoBody)
+pub law_59 : Law non.Body (right_of productions 59) (rule.Body BodyRule'.NoBody)
 unfolding productions
 law_59 ps f = (simp append-nil, tt)
 
 -- Body = is Decls begin Stmts end EndId ;
-pub law_60 : Law non.Body (right_of productions 60) (rule.Subprogram SubprogramRule'.SomeBody)
+pub law_60 : Law non.Body (right_of productions 60) (rule.Body BodyRule'.SomeBody)
 unfolding productions
 law_60 ps f = (simp (append_assoc, append-nil), tt)
 

@@ -11,6 +11,7 @@ use Rattle.ada_tree.specs.declared.rules.ObjectRule.TheVariants as ObjectRule'
 use Rattle.ada_tree.specs.declared.rules.OptionalRule.TheVariants as OptionalRule'
 use Rattle.ada_tree.specs.declared.rules.SubtypeRule.TheVariants as SubtypeRule'
 use Rattle.ada_tree.specs.declared.rules.TypeFormRule.TheVariants as TypeFormRule'
+use Rattle.ada_tree.specs.declared.rules.CompositeRule.TheVariants as CompositeRule'
 use Rattle.ada_tree.specs.declared.rules.Rule.TheVariants as rule
 use Rattle.tree_parts.specs.Parts.{◌!◌, index_form_of, object_of, token_of}
 use Rattle.ada_tree.proofs.Joins.{flat2, flat5, flat6, record5}
@@ -33,12 +34,12 @@ unfolding productions
 law_25 ps f = (simp (append_assoc, append-nil), tt)
 
 -- TypeDef = array ( Index ) of SubInd
-pub law_26 : Law non.TypeDef (right_of productions 26) (rule.TypeForm TypeFormRule'.Array)
+pub law_26 : Law non.TypeDef (right_of productions 26) (rule.Composite CompositeRule'.Array)
 unfolding productions
 law_26 ps f = (flat6 (token_text ((terminal.Word res.Array)) (token_of (ps ! 0))) (token_text ((terminal.Mark del.Open)) (token_of (ps ! 1))) (text non.Index (ps ! 2)) (token_text ((terminal.Mark del.Close)) (token_of (ps ! 3))) (token_text ((terminal.Word res.Of)) (token_of (ps ! 4))) (text non.SubInd (ps ! 5)), tt)
 
 -- TypeDef = record Comp Comps end record
-pub law_27 : Law non.TypeDef (right_of productions 27) (rule.TypeForm TypeFormRule'.Record)
+pub law_27 : Law non.TypeDef (right_of productions 27) (rule.Composite CompositeRule'.Record)
 unfolding productions
 law_27 ps f = (record5 (token_text ((terminal.Word res.Record)) (token_of (ps ! 0))) (text non.Comp (ps ! 1)) (text non.Comps (ps ! 2)) (token_text ((terminal.Word res.End)) (token_of (ps ! 3))) (token_text ((terminal.Word res.Record)) (token_of (ps ! 4))), tt)
 

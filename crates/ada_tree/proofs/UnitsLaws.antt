@@ -8,10 +8,12 @@ use Rattle.grammar_table.specs.Productions.{productions}
 use Rattle.grammar_table.specs.declared.symbols.Nonterminal.TheVariants as non
 use Rattle.grammar_table.specs.declared.symbols.Terminal.TheVariants as terminal
 use Rattle.ada_tree.specs.declared.rules.ContextRule.TheVariants as ContextRule'
+use Rattle.ada_tree.specs.declared.rules.ClauseRule.TheVariants as ClauseRule'
 use Rattle.ada_tree.specs.declared.rules.DeclarationRule.TheVariants as DeclarationRule'
 use Rattle.ada_tree.specs.declared.rules.NamesRule.TheVariants as NamesRule'
 use Rattle.ada_tree.specs.declared.rules.OtherDeclarationRule.TheVariants as OtherDeclarationRule'
 use Rattle.ada_tree.specs.declared.rules.UnitRule.TheVariants as UnitRule'
+use Rattle.ada_tree.specs.declared.rules.PackageRule.TheVariants as PackageRule'
 use Rattle.ada_tree.specs.declared.rules.Rule.TheVariants as rule
 use Rattle.tree_parts.specs.Parts.{◌!◌, token_of, unit_of}
 use Rattle.ada_tree.proofs.Joins.{flat2, flat5}
@@ -29,12 +31,12 @@ unfolding productions
 law_1 ps f = (flat2 (text non.Pragma (ps ! 0)) (text non.Start (ps ! 1)), tt)
 
 -- Start = with Id Ids ; Start
-pub law_2 : Law non.Start (right_of productions 2) (rule.Context ContextRule'.ContextWith)
+pub law_2 : Law non.Start (right_of productions 2) (rule.Clause ClauseRule'.ContextWith)
 unfolding productions
 law_2 ps f = (simp (append_assoc, append-nil), tt)
 
 -- Start = use Id Ids ; Start
-pub law_3 : Law non.Start (right_of productions 3) (rule.Context ContextRule'.ContextUse)
+pub law_3 : Law non.Start (right_of productions 3) (rule.Clause ClauseRule'.ContextUse)
 unfolding productions
 law_3 ps f = (simp (append_assoc, append-nil), tt)
 
@@ -64,12 +66,12 @@ unfolding productions
 law_8 ps f = (simp (append_assoc, append-nil), tt)
 
 -- Pack = body Id Asp is Decls end EndId ;
-pub law_9 : Law non.Pack (right_of productions 9) (rule.Unit UnitRule'.PackageBody)
+pub law_9 : Law non.Pack (right_of productions 9) (rule.Package PackageRule'.PackageBody)
 unfolding productions
 law_9 ps f = (simp (append_assoc, append-nil), tt)
 
 -- Pack = Id Asp is Decls Priv end EndId ;
-pub law_10 : Law non.Pack (right_of productions 10) (rule.Unit UnitRule'.PackageSpec)
+pub law_10 : Law non.Pack (right_of productions 10) (rule.Package PackageRule'.PackageSpec)
 unfolding productions
 law_10 ps f = (simp (append_assoc, append-nil), tt)
 

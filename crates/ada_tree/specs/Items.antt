@@ -10,6 +10,8 @@ use Rattle.ada_tree.specs.declared.rules.OptionalRule.{OptionalRule}
 use Rattle.ada_tree.specs.declared.rules.OptionalRule.TheVariants as optional'
 use Rattle.ada_tree.specs.declared.rules.ItemRule.{ItemRule}
 use Rattle.ada_tree.specs.declared.rules.ItemRule.TheVariants as item'
+use Rattle.ada_tree.specs.declared.rules.ConditionalRule.{ConditionalRule}
+use Rattle.ada_tree.specs.declared.rules.ConditionalRule.TheVariants as conditional'
 use Rattle.ada_tree.specs.declared.rules.ArgsRule.{ArgsRule}
 use Rattle.ada_tree.specs.declared.rules.ArgsRule.TheVariants as args'
 use Rattle.ada_tree.specs.declared.rules.ArgRule.{ArgRule}
@@ -41,12 +43,14 @@ item_rule item'.Range s = part.Item (item_part.Range (record { low = (expr_of (s
 item_rule item'.Plain s = part.Item (item_part.Item (plain (expr_of (s ! 0)))) ∷ after 1 s
 -- Cond = for AllSome Id in Range => Expr
 item_rule item'.Quantified s = part.Item (item_part.Item (record { span = joined (place_of (s ! 0)) (span_of (expr_of (s ! 6))); form = item_form.Quantified (quantifier_of (token_of (s ! 1)).kind) (place_of (s ! 2)) (range_of (s ! 4)) (expr_of (s ! 6)) })) ∷ after 7 s
+
+abbrev pub conditional_rule : ConditionalRule → List Part → List Part
 -- Cond = if Expr then Expr IfMore IfElse
-item_rule item'.If s = part.Item (item_part.Item (record { span = joined (place_of (s ! 0)) (expr_end (optional_expr_of (s ! 5)) (unwrap_or (arms_of (s ! 4)).edge (span_of (expr_of (s ! 3))))); form = item_form.If (record { condition = (expr_of (s ! 1)); gives = (expr_of (s ! 3)) } ∷ (arms_of (s ! 4)).value) (optional_expr_of (s ! 5)) })) ∷ after 6 s
+conditional_rule conditional'.If s = part.Item (item_part.Item (record { span = joined (place_of (s ! 0)) (expr_end (optional_expr_of (s ! 5)) (unwrap_or (arms_of (s ! 4)).edge (span_of (expr_of (s ! 3))))); form = item_form.If (record { condition = (expr_of (s ! 1)); gives = (expr_of (s ! 3)) } ∷ (arms_of (s ! 4)).value) (optional_expr_of (s ! 5)) })) ∷ after 6 s
 -- IfMore = elsif Expr then Expr IfMore
-item_rule item'.Arms s = part.Item (item_part.Arms (record { value = record { condition = (expr_of (s ! 1)); gives = (expr_of (s ! 3)) } ∷ (arms_of (s ! 4)).value; edge = Some (unwrap_or (arms_of (s ! 4)).edge (span_of (expr_of (s ! 3)))) })) ∷ after 5 s
+conditional_rule conditional'.Arms s = part.Item (item_part.Arms (record { value = record { condition = (expr_of (s ! 1)); gives = (expr_of (s ! 3)) } ∷ (arms_of (s ! 4)).value; edge = Some (unwrap_or (arms_of (s ! 4)).edge (span_of (expr_of (s ! 3)))) })) ∷ after 5 s
 -- IfMore =
-item_rule item'.NoArms s = part.Item (item_part.Arms (record { value = []; edge = None })) ∷ s
+conditional_rule conditional'.NoArms s = part.Item (item_part.Arms (record { value = []; edge = None })) ∷ s
 
 abbrev pub args_rule : ArgsRule → List Part → List Part
 -- PragArg = ( Args )

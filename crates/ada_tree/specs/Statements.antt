@@ -17,6 +17,8 @@ use Rattle.ada_tree.specs.declared.rules.ChoiceRule.{ChoiceRule}
 use Rattle.ada_tree.specs.declared.rules.ChoiceRule.TheVariants as choice'
 use Rattle.ada_tree.specs.declared.rules.LoopRule.{LoopRule}
 use Rattle.ada_tree.specs.declared.rules.LoopRule.TheVariants as loop'
+use Rattle.ada_tree.specs.declared.rules.DirectionRule.{DirectionRule}
+use Rattle.ada_tree.specs.declared.rules.DirectionRule.TheVariants as direction'
 use Rattle.tree_parts.specs.Missing.{stmt_at}
 use Rattle.tree_parts.specs.Operations.{joined}
 use Rattle.tree_parts.specs.Relations.{named_action}
@@ -77,7 +79,9 @@ loop_rule loop'.While s = part.Choice (choice_part.LoopHead (record { value = lo
 loop_rule loop'.For s = part.Choice (choice_part.LoopHead (record { value = loop_head.For (place_of (s ! 1)) (flag_of (s ! 3)) (range_of (s ! 4)); edge = Some (place_of (s ! 0)) })) ∷ after 5 s
 -- Head =
 loop_rule loop'.Forever s = part.Choice (choice_part.LoopHead (record { value = loop_head.Forever; edge = None })) ∷ s
+
+abbrev pub direction_rule : DirectionRule → List Part → List Part
 -- Rev = reverse
-loop_rule loop'.Reverse s = part.Choice (choice_part.Flag true) ∷ after 1 s
+direction_rule direction'.Reverse s = part.Choice (choice_part.Flag true) ∷ after 1 s
 -- Rev =
-loop_rule loop'.Forward s = part.Choice (choice_part.Flag false) ∷ s
+direction_rule direction'.Forward s = part.Choice (choice_part.Flag false) ∷ s

@@ -7,6 +7,8 @@ use Rattle.tree_parts.specs.declared.parts.Part.{Part}
 use Rattle.tree_parts.specs.declared.parts.Part.TheVariants as part
 use Rattle.ada_tree.specs.declared.rules.SubprogramRule.{SubprogramRule}
 use Rattle.ada_tree.specs.declared.rules.SubprogramRule.TheVariants as subprogram'
+use Rattle.ada_tree.specs.declared.rules.BodyRule.{BodyRule}
+use Rattle.ada_tree.specs.declared.rules.BodyRule.TheVariants as body'
 use Rattle.ada_tree.specs.declared.rules.ParamRule.{ParamRule}
 use Rattle.ada_tree.specs.declared.rules.ParamRule.TheVariants as param'
 use Rattle.ada_tree.specs.declared.rules.ModeRule.{ModeRule}
@@ -24,10 +26,12 @@ abbrev pub subprogram_rule : SubprogramRule → List Part → List Part
 subprogram_rule subprogram'.Procedure s = part.Declaration (declaration_part.Sub (record { span = joined (place_of (s ! 0)) (body_of (s ! 4)).end; name = (place_of (s ! 1)); params = (params_of (s ! 2)); result = None; aspects = (aspects_of (s ! 3)); body = (body_of (s ! 4)).value })) ∷ after 5 s
 -- Sub = function Id Params return Name Asp Body
 subprogram_rule subprogram'.Function s = part.Declaration (declaration_part.Sub (record { span = joined (place_of (s ! 0)) (body_of (s ! 6)).end; name = (place_of (s ! 1)); params = (params_of (s ! 2)); result = Some (name_of (s ! 4)); aspects = (aspects_of (s ! 5)); body = (body_of (s ! 6)).value })) ∷ after 7 s
+
+abbrev pub body_rule : BodyRule → List Part → List Part
 -- Body = ;
-subprogram_rule subprogram'.NoBody s = part.Declaration (declaration_part.Body (record { value = None; end = (place_of (s ! 0)) })) ∷ after 1 s
+body_rule body'.NoBody s = part.Declaration (declaration_part.Body (record { value = None; end = (place_of (s ! 0)) })) ∷ after 1 s
 -- Body = is Decls begin Stmts end EndId ;
-subprogram_rule subprogram'.SomeBody s = part.Declaration (declaration_part.Body (record { value = Some (record { declarations = (decls_of (s ! 1)); statements = (stmts_of (s ! 3)); end_name = (end_name_of (s ! 5)) }); end = (place_of (s ! 6)) })) ∷ after 7 s
+body_rule body'.SomeBody s = part.Declaration (declaration_part.Body (record { value = Some (record { declarations = (decls_of (s ! 1)); statements = (stmts_of (s ! 3)); end_name = (end_name_of (s ! 5)) }); end = (place_of (s ! 6)) })) ∷ after 7 s
 
 abbrev pub param_rule : ParamRule → List Part → List Part
 -- Params = ( Param ParMore )

@@ -7,6 +7,8 @@ use Rattle.tree_parts.specs.declared.parts.Part.{Part}
 use Rattle.tree_parts.specs.declared.parts.Part.TheVariants as part
 use Rattle.ada_tree.specs.declared.rules.TypeFormRule.{TypeFormRule}
 use Rattle.ada_tree.specs.declared.rules.TypeFormRule.TheVariants as type_form'
+use Rattle.ada_tree.specs.declared.rules.CompositeRule.{CompositeRule}
+use Rattle.ada_tree.specs.declared.rules.CompositeRule.TheVariants as composite'
 use Rattle.ada_tree.specs.declared.rules.IndexRule.{IndexRule}
 use Rattle.ada_tree.specs.declared.rules.IndexRule.TheVariants as index'
 use Rattle.ada_tree.specs.declared.rules.SubtypeRule.{SubtypeRule}
@@ -24,12 +26,14 @@ type_form_rule type_form'.Range s = part.Type (type_part.TypeDef (record { span 
 type_form_rule type_form'.Modular s = part.Type (type_part.TypeDef (record { span = joined (place_of (s ! 0)) (span_of (expr_of (s ! 1))); form = type_form.Modular (expr_of (s ! 1)) })) ∷ after 2 s
 -- TypeDef = ( Id Ids )
 type_form_rule type_form'.Enumeration s = part.Type (type_part.TypeDef (record { span = joined (place_of (s ! 0)) (place_of (s ! 3)); form = type_form.Enumeration ((place_of (s ! 1)) ∷ (names_of (s ! 2))) })) ∷ after 4 s
--- TypeDef = array ( Index ) of SubInd
-type_form_rule type_form'.Array s = part.Type (type_part.TypeDef (record { span = joined (place_of (s ! 0)) (sub_ind_of (s ! 5)).span; form = type_form.Array (index_of (s ! 2)) (sub_ind_of (s ! 5)) })) ∷ after 6 s
--- TypeDef = record Comp Comps end record
-type_form_rule type_form'.Record s = part.Type (type_part.TypeDef (record { span = joined (place_of (s ! 0)) (place_of (s ! 4)); form = type_form.Record ((component_of (s ! 1)) ∷ (components_of (s ! 2))) })) ∷ after 5 s
 -- TypeDef = new SubInd
 type_form_rule type_form'.Derived s = part.Type (type_part.TypeDef (record { span = joined (place_of (s ! 0)) (sub_ind_of (s ! 1)).span; form = type_form.Derived (sub_ind_of (s ! 1)) })) ∷ after 2 s
+
+abbrev pub composite_rule : CompositeRule → List Part → List Part
+-- TypeDef = array ( Index ) of SubInd
+composite_rule composite'.Array s = part.Type (type_part.TypeDef (record { span = joined (place_of (s ! 0)) (sub_ind_of (s ! 5)).span; form = type_form.Array (index_of (s ! 2)) (sub_ind_of (s ! 5)) })) ∷ after 6 s
+-- TypeDef = record Comp Comps end record
+composite_rule composite'.Record s = part.Type (type_part.TypeDef (record { span = joined (place_of (s ! 0)) (place_of (s ! 4)); form = type_form.Record ((component_of (s ! 1)) ∷ (components_of (s ! 2))) })) ∷ after 5 s
 
 abbrev pub index_rule : IndexRule → List Part → List Part
 -- Index = Simple IdxTail

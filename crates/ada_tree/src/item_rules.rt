@@ -1,9 +1,9 @@
 //! What becomes of ranges, arguments, and conditional and quantified expressions (Ada RM 3.5, 4.3, 4.5.7, 4.5.8, 6.4).
 
 ghost use Rattle.std.specs.Prelude.{◌≡◌, OnOk};
-ghost use Rattle.ada_tree.specs.Items.{arg_rule, args_rule, item_rule, optional_rule};
+ghost use Rattle.ada_tree.specs.Items.{arg_rule, args_rule, conditional_rule, item_rule, optional_rule};
 
-use crate::rules::{ArgRule, ArgsRule, ItemRule, OptionalRule};
+use crate::rules::{ArgRule, ArgsRule, ConditionalRule, ItemRule, OptionalRule};
 use ada_syntax::{Arg, ArgChoice, Arm, ItemForm, Range};
 use std::alloc::Global;
 use tree_parts::{
@@ -71,8 +71,20 @@ pub fn apply_item(alloc: Global, rule: ItemRule, parts: &mut Parts) -> Result<()
                 ItemForm::Quantified(quantifier_of(quantifier.kind), name, range, predicate),
             )
         }
+    }
+}
+
+/// Takes the parts of a production from the front, and puts there what the rule makes of them.
+pub fn apply_conditional(
+    alloc: Global,
+    rule: ConditionalRule,
+    parts: &mut Parts,
+) -> Result<(), Starved>
+    ensures { OnOk result (parts.new ≡ conditional_rule rule parts.old) }
+{
+    match rule {
         // Cond = if Expr then Expr IfMore IfElse
-        ItemRule::If => {
+        ConditionalRule::If => {
             let start = parts.place();
             let condition = parts.expression().expr(alloc)?;
             parts.skip();
@@ -80,13 +92,7 @@ pub fn apply_item(alloc: Global, rule: ItemRule, parts: &mut Parts) -> Result<()
             let arms = parts.item().arms(alloc);
             let otherwise = parts.item().optional_expr();
             let end = expr_end(&otherwise, arms.edge.unwrap_or(gives.span));
-            let arms = match arms.value.with_first(Arm { condition, gives }) {
-                Ok(arms) => arms,
-                Err(starved) => {
-                    drop(otherwise);
-                    return Err(starved);
-                }
-            };
+            let arms = arms.value.with_first(Arm { condition, gives })?;
             parts.put_formed_item(
                 alloc,
                 joined(start, end),
@@ -94,7 +100,7 @@ pub fn apply_item(alloc: Global, rule: ItemRule, parts: &mut Parts) -> Result<()
             )
         }
         // IfMore = elsif Expr then Expr IfMore
-        ItemRule::Arms => {
+        ConditionalRule::Arms => {
             parts.skip();
             let condition = parts.expression().expr(alloc)?;
             parts.skip();
@@ -111,7 +117,7 @@ pub fn apply_item(alloc: Global, rule: ItemRule, parts: &mut Parts) -> Result<()
             )
         }
         // IfMore =
-        ItemRule::NoArms => {
+        ConditionalRule::NoArms => {
             parts.put_item(
                 alloc,
                 ItemPart::Arms(Edged {

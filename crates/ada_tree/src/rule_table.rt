@@ -1,11 +1,11 @@
 //! The rule of each production.
 
 use crate::rules::{
-    ArgRule, ArgsRule, AspectRule, AttributeRule, CaseRule, ChoiceRule, ContextRule,
-    DeclarationRule, IfRule, IndexRule, ItemRule, LogicRule, LoopRule, ModeRule, NameRule,
-    NamesRule, ObjectRule, OperationRule, OptionalRule, OtherDeclarationRule, ParamRule,
-    PrimaryRule, RelationRule, Rule, StatementRule, SubprogramRule, SubtypeRule, TypeFormRule,
-    UnitRule,
+    ArgRule, ArgsRule, AspectRule, AttributeRule, BodyRule, CaseRule, ChoiceRule, ClauseRule,
+    CompositeRule, ConditionalRule, ContextRule, DeclarationRule, DirectionRule, IfRule, IndexRule,
+    ItemRule, LogicRule, LoopRule, ModeRule, NameRule, NamesRule, ObjectRule, OperationRule,
+    OptionalRule, OtherDeclarationRule, PackageRule, ParamRule, PrimaryRule, RelationRule, Rule,
+    StatementRule, SubprogramRule, SubtypeRule, TypeFormRule, UnitRule,
 };
 
 /// The rule of each production, in their order.
@@ -15,9 +15,9 @@ pub const RULES: [Rule; 186] = [
     // Start = Pragma Start
     Rule::Context(ContextRule::ContextPragma),
     // Start = with Id Ids ; Start
-    Rule::Context(ContextRule::ContextWith),
+    Rule::Clause(ClauseRule::ContextWith),
     // Start = use Id Ids ; Start
-    Rule::Context(ContextRule::ContextUse),
+    Rule::Clause(ClauseRule::ContextUse),
     // Start =
     Rule::Context(ContextRule::NoContext),
     // Ids = , Id Ids
@@ -29,9 +29,9 @@ pub const RULES: [Rule; 186] = [
     // Unit = Sub
     Rule::Unit(UnitRule::UnitSub),
     // Pack = body Id Asp is Decls end EndId ;
-    Rule::Unit(UnitRule::PackageBody),
+    Rule::Package(PackageRule::PackageBody),
     // Pack = Id Asp is Decls Priv end EndId ;
-    Rule::Unit(UnitRule::PackageSpec),
+    Rule::Package(PackageRule::PackageSpec),
     // Priv = private Decls
     Rule::Unit(UnitRule::SomePrivate),
     // Priv =
@@ -63,9 +63,9 @@ pub const RULES: [Rule; 186] = [
     // TypeDef = ( Id Ids )
     Rule::TypeForm(TypeFormRule::Enumeration),
     // TypeDef = array ( Index ) of SubInd
-    Rule::TypeForm(TypeFormRule::Array),
+    Rule::Composite(CompositeRule::Array),
     // TypeDef = record Comp Comps end record
-    Rule::TypeForm(TypeFormRule::Record),
+    Rule::Composite(CompositeRule::Record),
     // TypeDef = new SubInd
     Rule::TypeForm(TypeFormRule::Derived),
     // Index = Simple IdxTail
@@ -129,9 +129,9 @@ pub const RULES: [Rule; 186] = [
     // InOut =
     Rule::Mode(ModeRule::ModeIn),
     // Body = ;
-    Rule::Subprogram(SubprogramRule::NoBody),
+    Rule::Body(BodyRule::NoBody),
     // Body = is Decls begin Stmts end EndId ;
-    Rule::Subprogram(SubprogramRule::SomeBody),
+    Rule::Body(BodyRule::SomeBody),
     // Asp = with Aspect AspMore
     Rule::Aspect(AspectRule::Aspects),
     // Asp =
@@ -207,9 +207,9 @@ pub const RULES: [Rule; 186] = [
     // Head =
     Rule::Loop(LoopRule::Forever),
     // Rev = reverse
-    Rule::Loop(LoopRule::Reverse),
+    Rule::Direction(DirectionRule::Reverse),
     // Rev =
-    Rule::Loop(LoopRule::Forward),
+    Rule::Direction(DirectionRule::Forward),
     // ExWhen = when Expr
     Rule::Optional(OptionalRule::SomeExprAfter),
     // ExWhen =
@@ -231,15 +231,15 @@ pub const RULES: [Rule; 186] = [
     // Cond = for AllSome Id in Range => Expr
     Rule::Item(ItemRule::Quantified),
     // Cond = if Expr then Expr IfMore IfElse
-    Rule::Item(ItemRule::If),
+    Rule::Conditional(ConditionalRule::If),
     // AllSome = all
     Rule::Same,
     // AllSome = some
     Rule::Same,
     // IfMore = elsif Expr then Expr IfMore
-    Rule::Item(ItemRule::Arms),
+    Rule::Conditional(ConditionalRule::Arms),
     // IfMore =
-    Rule::Item(ItemRule::NoArms),
+    Rule::Conditional(ConditionalRule::NoArms),
     // IfElse = else Expr
     Rule::Optional(OptionalRule::SomeExprAfter),
     // IfElse =

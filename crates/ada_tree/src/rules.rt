@@ -1,18 +1,23 @@
 //! What a production makes of its parts.
 
-/// What becomes of a file and its context (Ada RM 10.1.1, 10.1.2).
+/// What becomes of a file and of pragmas before its unit (Ada RM 2.8, 10.1.1).
 #[derive(Clone, Copy)]
 pub enum ContextRule {
     /// `File = Start Unit`
     File,
-    /// `Start = with Id Ids ; Start`
-    ContextWith,
-    /// `Start = use Id Ids ; Start`
-    ContextUse,
     /// `Start = Pragma Start`
     ContextPragma,
     /// `Start =`
     NoContext,
+}
+
+/// What becomes of the with and use clauses before a unit (Ada RM 8.4, 10.1.2).
+#[derive(Clone, Copy)]
+pub enum ClauseRule {
+    /// `Start = with Id Ids ; Start`
+    ContextWith,
+    /// `Start = use Id Ids ; Start`
+    ContextUse,
 }
 
 /// What becomes of lists of names and of the name after an `end`.
@@ -28,21 +33,26 @@ pub enum NamesRule {
     NoEndName,
 }
 
-/// What becomes of library units: subprograms and packages (Ada RM 7.1, 7.2, 10.1.1).
+/// What becomes of library units and of private parts (Ada RM 7.1, 10.1.1).
 #[derive(Clone, Copy)]
 pub enum UnitRule {
     /// `Unit = package Pack`
     UnitPackage,
     /// `Unit = Sub`
     UnitSub,
-    /// `Pack = body Id Asp is Decls end EndId ;`
-    PackageBody,
-    /// `Pack = Id Asp is Decls Priv end EndId ;`
-    PackageSpec,
     /// `Priv = private Decls`
     SomePrivate,
     /// `Priv =`
     NoPrivate,
+}
+
+/// What becomes of packages (Ada RM 7.1, 7.2).
+#[derive(Clone, Copy)]
+pub enum PackageRule {
+    /// `Pack = body Id Asp is Decls end EndId ;`
+    PackageBody,
+    /// `Pack = Id Asp is Decls Priv end EndId ;`
+    PackageSpec,
 }
 
 /// What becomes of declarations of types, subtypes and objects (Ada RM 3.2.1, 3.2.2, 3.3.1, 3.11).
@@ -82,7 +92,7 @@ pub enum ObjectRule {
     Constant,
 }
 
-/// What becomes of type definitions (Ada RM 3.4, 3.5.1, 3.5.4, 3.6, 3.8).
+/// What becomes of definitions of scalar and derived types (Ada RM 3.4, 3.5.1, 3.5.4).
 #[derive(Clone, Copy)]
 pub enum TypeFormRule {
     /// `TypeDef = range Simple .. Simple`
@@ -91,12 +101,17 @@ pub enum TypeFormRule {
     Modular,
     /// `TypeDef = ( Id Ids )`
     Enumeration,
+    /// `TypeDef = new SubInd`
+    Derived,
+}
+
+/// What becomes of definitions of array and record types (Ada RM 3.6, 3.8).
+#[derive(Clone, Copy)]
+pub enum CompositeRule {
     /// `TypeDef = array ( Index ) of SubInd`
     Array,
     /// `TypeDef = record Comp Comps end record`
     Record,
-    /// `TypeDef = new SubInd`
-    Derived,
 }
 
 /// What becomes of the indexes of array types (Ada RM 3.6).
@@ -131,13 +146,18 @@ pub enum SubtypeRule {
     NoBounds,
 }
 
-/// What becomes of subprograms and their bodies (Ada RM 6.1, 6.3).
+/// What becomes of subprograms (Ada RM 6.1).
 #[derive(Clone, Copy)]
 pub enum SubprogramRule {
     /// `Sub = procedure Id Params Asp Body`
     Procedure,
     /// `Sub = function Id Params return Name Asp Body`
     Function,
+}
+
+/// What becomes of bodies of subprograms (Ada RM 6.3).
+#[derive(Clone, Copy)]
+pub enum BodyRule {
     /// `Body = ;`
     NoBody,
     /// `Body = is Decls begin Stmts end EndId ;`
@@ -250,6 +270,11 @@ pub enum LoopRule {
     For,
     /// `Head =`
     Forever,
+}
+
+/// What becomes of the direction of a loop (Ada RM 5.5).
+#[derive(Clone, Copy)]
+pub enum DirectionRule {
     /// `Rev = reverse`
     Reverse,
     /// `Rev =`
@@ -271,7 +296,7 @@ pub enum OptionalRule {
     NoItem,
 }
 
-/// What becomes of ranges, and of conditional and quantified expressions (Ada RM 3.5, 4.5.7, 4.5.8).
+/// What becomes of ranges and of quantified expressions (Ada RM 3.5, 4.5.8).
 #[derive(Clone, Copy)]
 pub enum ItemRule {
     /// `Range = Simple RgTail`
@@ -280,6 +305,11 @@ pub enum ItemRule {
     Plain,
     /// `Cond = for AllSome Id in Range => Expr`
     Quantified,
+}
+
+/// What becomes of if-expressions (Ada RM 4.5.7).
+#[derive(Clone, Copy)]
+pub enum ConditionalRule {
     /// `Cond = if Expr then Expr IfMore IfElse`
     If,
     /// `IfMore = elsif Expr then Expr IfMore`
@@ -408,15 +438,19 @@ pub enum Rule {
     /// The second part stays as it is, without the word before it.
     AfterWord,
     Context(ContextRule),
+    Clause(ClauseRule),
     Names(NamesRule),
     Unit(UnitRule),
+    Package(PackageRule),
     Declaration(DeclarationRule),
     OtherDeclaration(OtherDeclarationRule),
     Object(ObjectRule),
     TypeForm(TypeFormRule),
+    Composite(CompositeRule),
     Index(IndexRule),
     Subtype(SubtypeRule),
     Subprogram(SubprogramRule),
+    Body(BodyRule),
     Param(ParamRule),
     Mode(ModeRule),
     Aspect(AspectRule),
@@ -425,8 +459,10 @@ pub enum Rule {
     Case(CaseRule),
     Choice(ChoiceRule),
     Loop(LoopRule),
+    Direction(DirectionRule),
     Optional(OptionalRule),
     Item(ItemRule),
+    Conditional(ConditionalRule),
     Args(ArgsRule),
     Arg(ArgRule),
     Logic(LogicRule),

@@ -1,9 +1,9 @@
 //! What becomes of statements (Ada RM 5, 6.4, 6.5).
 
 ghost use Rattle.std.specs.Prelude.{◌≡◌, OnOk};
-ghost use Rattle.ada_tree.specs.Statements.{case_rule, choice_rule, if_rule, loop_rule, statement_rule};
+ghost use Rattle.ada_tree.specs.Statements.{case_rule, choice_rule, direction_rule, if_rule, loop_rule, statement_rule};
 
-use crate::rules::{CaseRule, ChoiceRule, IfRule, LoopRule, StatementRule};
+use crate::rules::{CaseRule, ChoiceRule, DirectionRule, IfRule, LoopRule, StatementRule};
 use ada_syntax::{Action, Alternative, Branch, Choice, LoopHead};
 use std::alloc::Global;
 use tree_parts::{Chain, ChoicePart, Edged, Parts, Starved, StatementPart, joined, named_action};
@@ -240,12 +240,20 @@ pub fn apply_loop(alloc: Global, rule: LoopRule, parts: &mut Parts) -> Result<()
                 }),
             )
         }
+    }
+}
+
+/// Takes the parts of a production from the front, and puts there what the rule makes of them.
+pub fn apply_direction(alloc: Global, rule: DirectionRule, parts: &mut Parts) -> Result<(), Starved>
+    ensures { OnOk result (parts.new ≡ direction_rule rule parts.old) }
+{
+    match rule {
         // Rev = reverse
-        LoopRule::Reverse => {
+        DirectionRule::Reverse => {
             parts.skip();
             parts.put_choice(alloc, ChoicePart::Flag(true))
         }
         // Rev =
-        LoopRule::Forward => { parts.put_choice(alloc, ChoicePart::Flag(false)) }
+        DirectionRule::Forward => { parts.put_choice(alloc, ChoicePart::Flag(false)) }
     }
 }

@@ -1,9 +1,9 @@
 //! What becomes of subprograms, aspects and pragmas (Ada RM 2.8, 6.1, 6.3, 13.1.1).
 
 ghost use Rattle.std.specs.Prelude.{◌≡◌, OnOk};
-ghost use Rattle.ada_tree.specs.Subprograms.{aspect_rule, mode_rule, param_rule, subprogram_rule};
+ghost use Rattle.ada_tree.specs.Subprograms.{aspect_rule, body_rule, mode_rule, param_rule, subprogram_rule};
 
-use crate::rules::{AspectRule, ModeRule, ParamRule, SubprogramRule};
+use crate::rules::{AspectRule, BodyRule, ModeRule, ParamRule, SubprogramRule};
 use ada_syntax::{Aspect, Body, Mode, Param, Pragma, Sub};
 use std::alloc::Global;
 use tree_parts::{Chain, DeclarationPart, Ended, Parts, Starved, SubprogramPart, item_end, joined};
@@ -57,13 +57,21 @@ pub fn apply_subprogram(
                 }),
             )
         }
+    }
+}
+
+/// Takes the parts of a production from the front, and puts there what the rule makes of them.
+pub fn apply_body(alloc: Global, rule: BodyRule, parts: &mut Parts) -> Result<(), Starved>
+    ensures { OnOk result (parts.new ≡ body_rule rule parts.old) }
+{
+    match rule {
         // Body = ;
-        SubprogramRule::NoBody => {
+        BodyRule::NoBody => {
             let end = parts.place();
             parts.put_declaration(alloc, DeclarationPart::Body(Ended { value: None, end }))
         }
         // Body = is Decls begin Stmts end EndId ;
-        SubprogramRule::SomeBody => {
+        BodyRule::SomeBody => {
             parts.skip();
             let decls = parts.declaration().decls(alloc);
             parts.skip();

@@ -1,9 +1,9 @@
 //! What becomes of type definitions and subtype indications (Ada RM 3.2.2, 3.4, 3.5.1, 3.5.4, 3.6, 3.8).
 
 ghost use Rattle.std.specs.Prelude.{◌≡◌, OnOk};
-ghost use Rattle.ada_tree.specs.Types.{index_rule, subtype_rule, type_form_rule};
+ghost use Rattle.ada_tree.specs.Types.{composite_rule, index_rule, subtype_rule, type_form_rule};
 
-use crate::rules::{IndexRule, SubtypeRule, TypeFormRule};
+use crate::rules::{CompositeRule, IndexRule, SubtypeRule, TypeFormRule};
 use ada_syntax::{Bounds, Component, Index, IndexForm, SubInd, TypeForm};
 use std::alloc::Global;
 use tree_parts::{Chain, Parts, Starved, TypePart, bounds_end, joined};
@@ -48,8 +48,22 @@ pub fn apply_type_form(alloc: Global, rule: TypeFormRule, parts: &mut Parts) -> 
                 TypeForm::Enumeration(names.into_items()),
             )
         }
+        // TypeDef = new SubInd
+        TypeFormRule::Derived => {
+            let start = parts.place();
+            let parent = parts.type_part().sub_ind(alloc);
+            parts.put_type_def(alloc, joined(start, parent.span), TypeForm::Derived(parent))
+        }
+    }
+}
+
+/// Takes the parts of a production from the front, and puts there what the rule makes of them.
+pub fn apply_composite(alloc: Global, rule: CompositeRule, parts: &mut Parts) -> Result<(), Starved>
+    ensures { OnOk result (parts.new ≡ composite_rule rule parts.old) }
+{
+    match rule {
         // TypeDef = array ( Index ) of SubInd
-        TypeFormRule::Array => {
+        CompositeRule::Array => {
             let start = parts.place();
             parts.skip();
             let index = parts.type_part().index(alloc)?;
@@ -63,7 +77,7 @@ pub fn apply_type_form(alloc: Global, rule: TypeFormRule, parts: &mut Parts) -> 
             )
         }
         // TypeDef = record Comp Comps end record
-        TypeFormRule::Record => {
+        CompositeRule::Record => {
             let start = parts.place();
             let first = parts.type_part().component(alloc);
             let components = parts.type_part().components(alloc);
@@ -75,12 +89,6 @@ pub fn apply_type_form(alloc: Global, rule: TypeFormRule, parts: &mut Parts) -> 
                 joined(start, end),
                 TypeForm::Record(components.into_items()),
             )
-        }
-        // TypeDef = new SubInd
-        TypeFormRule::Derived => {
-            let start = parts.place();
-            let parent = parts.type_part().sub_ind(alloc);
-            parts.put_type_def(alloc, joined(start, parent.span), TypeForm::Derived(parent))
         }
     }
 }

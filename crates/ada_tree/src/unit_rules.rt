@@ -1,9 +1,9 @@
 //! What becomes of compilation units and their context (Ada RM 10.1.1, 10.1.2), and packages (Ada RM 7.1, 7.2).
 
 ghost use Rattle.std.specs.Prelude.{◌≡◌, OnOk};
-ghost use Rattle.ada_tree.specs.Units.{context_rule, names_rule, unit_rule};
+ghost use Rattle.ada_tree.specs.Units.{clause_rule, context_rule, names_rule, package_rule, unit_rule};
 
-use crate::rules::{ContextRule, NamesRule, UnitRule};
+use crate::rules::{ClauseRule, ContextRule, NamesRule, PackageRule, UnitRule};
 use ada_syntax::{ContextItem, Package, PackageBody, SourceUnit, Unit, UnitForm};
 use std::alloc::Global;
 use tree_parts::{Chain, Edged, Parts, Starved, UnitPart, joined};
@@ -23,44 +23,6 @@ pub fn apply_context(alloc: Global, rule: ContextRule, parts: &mut Parts) -> Res
                     span: joined(context.edge.unwrap_or(unit.span), unit.span),
                     context: context.value.into_items(),
                     unit,
-                }),
-            )
-        }
-        // Start = with Id Ids ; Start
-        ContextRule::ContextWith => {
-            let start = parts.place();
-            let name = parts.place();
-            let names = parts.unit().names(alloc);
-            parts.skip();
-            let context = parts.unit().context(alloc);
-            let names = names.with_first(name)?;
-            let value = context
-                .value
-                .with_first(ContextItem::With(names.into_items()))?;
-            parts.put_unit(
-                alloc,
-                UnitPart::Context(Edged {
-                    value,
-                    edge: Some(start),
-                }),
-            )
-        }
-        // Start = use Id Ids ; Start
-        ContextRule::ContextUse => {
-            let start = parts.place();
-            let name = parts.place();
-            let names = parts.unit().names(alloc);
-            parts.skip();
-            let context = parts.unit().context(alloc);
-            let names = names.with_first(name)?;
-            let value = context
-                .value
-                .with_first(ContextItem::Use(names.into_items()))?;
-            parts.put_unit(
-                alloc,
-                UnitPart::Context(Edged {
-                    value,
-                    edge: Some(start),
                 }),
             )
         }
@@ -85,6 +47,52 @@ pub fn apply_context(alloc: Global, rule: ContextRule, parts: &mut Parts) -> Res
                 UnitPart::Context(Edged {
                     value: Chain::new(alloc),
                     edge: None,
+                }),
+            )
+        }
+    }
+}
+
+/// Takes the parts of a production from the front, and puts there what the rule makes of them.
+pub fn apply_clause(alloc: Global, rule: ClauseRule, parts: &mut Parts) -> Result<(), Starved>
+    ensures { OnOk result (parts.new ≡ clause_rule rule parts.old) }
+{
+    match rule {
+        // Start = with Id Ids ; Start
+        ClauseRule::ContextWith => {
+            let start = parts.place();
+            let name = parts.place();
+            let names = parts.unit().names(alloc);
+            parts.skip();
+            let context = parts.unit().context(alloc);
+            let names = names.with_first(name)?;
+            let value = context
+                .value
+                .with_first(ContextItem::With(names.into_items()))?;
+            parts.put_unit(
+                alloc,
+                UnitPart::Context(Edged {
+                    value,
+                    edge: Some(start),
+                }),
+            )
+        }
+        // Start = use Id Ids ; Start
+        ClauseRule::ContextUse => {
+            let start = parts.place();
+            let name = parts.place();
+            let names = parts.unit().names(alloc);
+            parts.skip();
+            let context = parts.unit().context(alloc);
+            let names = names.with_first(name)?;
+            let value = context
+                .value
+                .with_first(ContextItem::Use(names.into_items()))?;
+            parts.put_unit(
+                alloc,
+                UnitPart::Context(Edged {
+                    value,
+                    edge: Some(start),
                 }),
             )
         }
@@ -137,8 +145,24 @@ pub fn apply_unit(alloc: Global, rule: UnitRule, parts: &mut Parts) -> Result<()
             let sub = parts.declaration().sub(alloc);
             parts.put_formed_unit(alloc, sub.span, UnitForm::Sub(sub))
         }
+        // Priv = private Decls
+        UnitRule::SomePrivate => {
+            parts.skip();
+            let decls = parts.declaration().decls(alloc);
+            parts.put_unit(alloc, UnitPart::Private(Some(decls.into_items())))
+        }
+        // Priv =
+        UnitRule::NoPrivate => { parts.put_unit(alloc, UnitPart::Private(None)) }
+    }
+}
+
+/// Takes the parts of a production from the front, and puts there what the rule makes of them.
+pub fn apply_package(alloc: Global, rule: PackageRule, parts: &mut Parts) -> Result<(), Starved>
+    ensures { OnOk result (parts.new ≡ package_rule rule parts.old) }
+{
+    match rule {
         // Pack = body Id Asp is Decls end EndId ;
-        UnitRule::PackageBody => {
+        PackageRule::PackageBody => {
             let start = parts.place();
             let name = parts.place();
             let aspects = parts.subprogram().aspects(alloc);
@@ -159,7 +183,7 @@ pub fn apply_unit(alloc: Global, rule: UnitRule, parts: &mut Parts) -> Result<()
             )
         }
         // Pack = Id Asp is Decls Priv end EndId ;
-        UnitRule::PackageSpec => {
+        PackageRule::PackageSpec => {
             let name = parts.place();
             let aspects = parts.subprogram().aspects(alloc);
             parts.skip();
@@ -180,13 +204,5 @@ pub fn apply_unit(alloc: Global, rule: UnitRule, parts: &mut Parts) -> Result<()
                 }),
             )
         }
-        // Priv = private Decls
-        UnitRule::SomePrivate => {
-            parts.skip();
-            let decls = parts.declaration().decls(alloc);
-            parts.put_unit(alloc, UnitPart::Private(Some(decls.into_items())))
-        }
-        // Priv =
-        UnitRule::NoPrivate => { parts.put_unit(alloc, UnitPart::Private(None)) }
     }
 }
