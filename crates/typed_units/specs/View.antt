@@ -105,7 +105,7 @@ node_of s (node.Item a i) = op2 (item i.checked) a i.value
 node_of s (node.Component a k) = component k a
 node_of s (node.Aggregate c b as') = aggregate c b (assocs_of as')
 node_of s (node.If as' e) = choose (arms_of as' e)
-node_of s (node.Quantified q k l h p) = quantified q k l h p
+node_of s (node.Quantified q k l h p) = quantified q k.number l h p
 
 abbrev pub expr_step : List Shape → Expr-F Ex → Ex
 expr_step shapes e = at e.place e.subtype (node_of (scalar_at shapes e.subtype) e.node)
@@ -126,7 +126,7 @@ demand_of shapes (demand.Variant ws) = text.variant (map (way_of shapes) ws)
 abbrev pub head_of : List Shape → Head → text.Head
 head_of shapes head.Forever = text.forever
 head_of shapes (head.While e) = text.while (expr shapes e)
-head_of shapes (head.For r k l h) = text.for r k (expr shapes l) (expr shapes h)
+head_of shapes (head.For r k l h) = text.for r k.number (expr shapes l) (expr shapes h)
 
 abbrev pub sts_of : List text.St → text.Sts
 sts_of [] = text.done

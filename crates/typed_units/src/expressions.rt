@@ -1,6 +1,6 @@
 //! Typed expressions, and the objects that are assigned and passed.
 
-use crate::operators::{Bounds, Composite, Connective, Object, Quantifier, Relation};
+use crate::operators::{Bounds, Composite, Connective, Counted, Object, Quantifier, Relation};
 use ada_values::{Op, Place, Value};
 use sqlite_items::{Boxed, Items};
 
@@ -127,6 +127,6 @@ pub enum ExprNode<E> {
     /// An aggregate, with the numbers of its components.
     Aggregate(Composite, Bounds, Items<Association<E>>),
     If(Items<Arm<E>>, E),
-    /// A quantified expression: the number of its index, the bounds, and the predicate.
-    Quantified(Quantifier, u32, E, E, E),
+    /// A quantified expression: its index, the bounds, and the predicate.
+    Quantified(Quantifier, Counted, E, E, E),
 }

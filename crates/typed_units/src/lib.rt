@@ -11,7 +11,7 @@ pub use checks::{CheckKind, SiteKey, laws_of_sites, same_site};
 pub use expressions::{
     Actual, Argument, Arm, Association, Expr, ExprNode, Fitted, Indexed, Step, Target,
 };
-pub use operators::{Bounds, Composite, Connective, Object, Quantifier, Relation};
+pub use operators::{Bounds, Composite, Connective, Counted, Object, Quantifier, Relation};
 pub use programs::{
     Class, Contract, Global, GlobalAspect, GlobalItem, GlobalMode, Inputs, Local, Mode, Param,
     Program, SlotList, Sub, SubtypeIds, Type,

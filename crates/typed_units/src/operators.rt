@@ -15,6 +15,14 @@ pub enum Object {
     Index(u32),
 }
 
+/// The parameter of a `for` loop, or the index of a quantified expression: its number in the subprogram, and that of its
+/// subtype.
+#[derive(Clone, Copy, Debug, PartialEq, Eq)]
+pub struct Counted {
+    pub number: u32,
+    pub subtype: u32,
+}
+
 /// The numbers from `first` to `last`; none where `last` is the smaller.
 #[derive(Clone, Copy, Debug, PartialEq, Eq)]
 pub struct Bounds {

@@ -112,9 +112,9 @@ pub struct Sub {
     pub post: Option<Contract>,
     pub global: Option<GlobalAspect>,
     pub locals: Items<Local>,
-    /// The subtypes of the parameters of its `for` loops.
+    /// The subtypes of the parameters of its `for` loops, by their numbers.
     pub turns: SubtypeIds,
-    /// The subtypes of the indexes of its quantified expressions.
+    /// The subtypes of the indexes of its quantified expressions, by their numbers.
     pub indexes: SubtypeIds,
     /// How many loops it has.
     pub loops: u32,

@@ -1,7 +1,7 @@
 //! Typed statements.
 
 use crate::expressions::{Argument, Expr, Fitted, Target};
-use crate::operators::Bounds;
+use crate::operators::{Bounds, Counted};
 use ada_values::Place;
 use sqlite_items::{Boxed, Items};
 
@@ -32,8 +32,8 @@ pub enum Head {
     /// `loop`.
     Forever,
     While(Expr),
-    /// A `for` loop: whether in reverse, the number of its parameter, and the bounds.
-    For(bool, u32, Expr, Expr),
+    /// A `for` loop: whether in reverse, its parameter, and the bounds.
+    For(bool, Counted, Expr, Expr),
 }
 
 /// A condition of an `if`, and the statements that run where it is the first that is True.
