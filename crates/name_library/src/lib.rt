@@ -4,8 +4,10 @@
 mod events;
 mod library;
 mod links;
+mod lookups;
 
 pub use events::{Event, Ident, Kind, Manner, Mode, Scope};
-pub use library::{Export, LibraryUnit, Part, exports, unit_of};
+pub use library::{Export, Exports, LibraryUnit, Part, opened_ident};
 pub use links::{Fault, Link, NameFault, Spot, Usage};
+pub use lookups::{Library, same_spot};
 pub use std::alloc::AllocError as Starved;
