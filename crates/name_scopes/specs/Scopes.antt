@@ -9,7 +9,7 @@ use Rattle.name_library.specs.declared.links.Spot.{Spot}
 use Rattle.name_library.specs.declared.links.Usage.{Usage}
 use Rattle.name_library.specs.declared.library.Export.{Export}
 use Rattle.name_library.specs.declared.library.LibraryUnit.{LibraryUnit}
-use Rattle.name_library.specs.Library.{contains, declaration_of, package_at, same_spot}
+use Rattle.name_library.specs.Library.{contains, declaration_of, export_named, package_at, same_spot}
 
 -- ---- what is declared
 
@@ -149,9 +149,6 @@ is_owned_as n _ = false
 abbrev pub is_inside : ℕ → List Frame → Bool
 is_inside n [] = false
 is_inside n (f ∷ fs) = is_owned_as n f.owner || is_inside n fs
-
-abbrev export_named : ℕ → List Export → Option Export
-export_named n = find (λ e. e.name == n)
 
 abbrev exports_of : Option LibraryUnit → List Export
 exports_of None = []
