@@ -126,33 +126,6 @@ goes_with part.SubprogramDeclaration part.SubprogramBody = true
 goes_with part.SubprogramBody part.SubprogramDeclaration = true
 goes_with _ _ = false
 
--- ---- circles (Ada RM 10.1.2): files are marked from which a chain of with clauses leads on
-
 abbrev pub contains : ℕ → List ℕ → Bool
 contains n [] = false
 contains n (m ∷ ms) = (n == m) || contains n ms
-
-abbrev file_named : Option LibraryUnit → List ℕ
-file_named None = []
-file_named (Some u) = u.spot.file ∷ []
-
--- the files that hold the declarations of what a unit withs
-abbrev pub leads_to : List LibraryUnit → List Ident → List ℕ
-leads_to l [] = []
-leads_to l (i ∷ more) = file_named (declaration_of l i.name) ++ leads_to l more
-
-abbrev merged : List ℕ → List ℕ → List ℕ
-merged ns [] = ns
-merged ns (m ∷ ms) = if contains m ns then merged ns ms else merged (ns ++ m ∷ []) ms
-
-abbrev onwards : List LibraryUnit → List LibraryUnit → List ℕ → List ℕ
-onwards l [] ns = ns
-onwards l (u ∷ us) ns = if contains u.spot.file ns then onwards l us (merged ns (leads_to l u.withs)) else onwards l us ns
-
-abbrev rounds : List LibraryUnit → List LibraryUnit → List ℕ → List ℕ
-rounds l [] ns = ns
-rounds l (u ∷ us) ns = rounds l us (onwards l l ns)
-
--- a chain of with clauses leads from the files to the other
-abbrev pub leads_back : List LibraryUnit → List ℕ → ℕ → Bool
-leads_back l ns file = contains file (rounds l l ns)
