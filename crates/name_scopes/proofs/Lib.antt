@@ -1,1 +1,3 @@
+mod Latest
 mod Meanings
+mod Opened

@@ -1,2 +1,4 @@
-pub mod Scopes
+pub mod Open
+pub mod State
 pub mod Steps
+pub mod Visible
