@@ -1,0 +1,5 @@
+pub mod Asked
+pub mod Statements
+pub mod Declarations
+pub mod Events
+pub mod Nested
