@@ -1,0 +1,87 @@
+//! What names stand for.
+
+use sqlite_items::Items;
+use std::marker::Model;
+use typed_units::Object;
+
+/// Whether an object may be written, and where not, why (Ada RM 3.3).
+#[derive(Clone, Copy)]
+pub enum Access {
+    Variable,
+    Constant,
+    InParameter,
+    LoopParameter,
+}
+
+/// What a declared name stands for.
+#[derive(Clone, Copy)]
+pub enum Entity {
+    /// Its declaration is refused, or isn't reached yet, so nothing can be demanded of it.
+    Unknown,
+    Package,
+    /// The subtype of this number.
+    Subtype(u32),
+    /// The subprogram of this number.
+    Routine(u32),
+    /// A named number (Ada RM 3.3.2).
+    Number(i128),
+    /// A literal of the enumeration of this number, by its position; `True` is 1 and `False` 0.
+    Literal(u32, i128),
+    /// A constant of this scalar subtype with a static value; `True` is 1 and `False` 0.
+    Static(u32, i128),
+    /// A package's constant of this composite subtype: the number of its value.
+    Constant(u32, u32),
+    /// Any other object, of this subtype.
+    Object(u32, Object, Access),
+}
+
+/// The first byte of a declaring identifier in its file, and what it stands for.
+#[derive(Clone, Copy)]
+pub struct Meaning {
+    pub at: u32,
+    pub entity: Entity,
+}
+
+/// What the declaring identifiers of a file stand for, in the order of the text.
+pub struct FileMeanings {
+    items: Items<Meaning>,
+}
+
+// Written out, so that crates that let these go need no proof of their own.
+impl Drop for FileMeanings {
+    fn drop(self) {
+        let FileMeanings { items } = self;
+        drop(items);
+    }
+}
+
+impl Model for FileMeanings {
+    ghost use Rattle.std.specs.Prelude.{List};
+    ghost use Rattle.type_base.specs.declared.entities.Meaning.{Meaning};
+
+    ghost Value = { List Meaning };
+
+    ghost view = { λ f. f.items };
+}
+
+/// What the declaring identifiers of a program stand for, file by file. Contracts see a list of lists.
+pub struct EntityTable {
+    files: Items<FileMeanings>,
+}
+
+// Written out, so that crates that let these go need no proof of their own.
+impl Drop for EntityTable {
+    fn drop(self) {
+        let EntityTable { files } = self;
+        drop(files);
+    }
+}
+
+impl Model for EntityTable {
+    ghost use Rattle.std.specs.Prelude.{List};
+    ghost use Rattle.type_base.specs.declared.entities.Meaning.{Meaning};
+
+    ghost Value = { List (List Meaning) };
+
+    ghost view = { λ t. t.files };
+}
