@@ -1,0 +1,5 @@
+pub mod Apart
+pub mod Chosen
+pub mod Filled
+pub mod Held
+pub mod Only

@@ -1,0 +1,12 @@
+//! What covers have.
+
+ghost use Rattle.std.specs.Prelude.{◌≡◌, ℤ, List};
+ghost use Rattle.typed_units.specs.declared.operators.Bounds.{Bounds};
+ghost use Rattle.choice_cover.specs.declared.cover.Cover.{Cover};
+ghost use Rattle.choice_cover.specs.Cover.{IsCover};
+
+/// One answer alone is right.
+#[tactic(auto, using(crate::proofs::Only::only_one))]
+pub fn laws_of_covers()
+    ensures one { (ranges : List Bounds) (lo : ℤ) (hi : ℤ) (c : Cover) (d : Cover) → IsCover ranges lo hi c → IsCover ranges lo hi d → c ≡ d }
+{}
