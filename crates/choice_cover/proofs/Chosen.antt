@@ -16,7 +16,7 @@ use Rattle.choice_cover.proofs.Only.{taken}
 abbrev pub Fits : ℤ → ℤ → List Bounds → ℕ → Type 0
 Fits lo hi bs n = (j : ℕ) (b : Bounds) → j < n → slice_get bs j ≡ Some b → fits_in lo hi b ≡ true
 
-fit_free : (v lo hi : ℤ) (b : Bounds) → fits_in lo hi b ≡ true → within lo hi v ≡ false → holds v b ≡ false
+pub fit_free : (v lo hi : ℤ) (b : Bounds) → fits_in lo hi b ≡ true → within lo hi v ≡ false → holds v b ≡ false
 fit_free v lo hi b f w = grind (arith, ints)
 
 fits_free : (lo hi : ℤ) (bs : List Bounds) (n : ℕ) → Fits lo hi bs n → (v : ℤ) → within lo hi v ≡ false → times (take n bs) v ≡ 0
@@ -32,13 +32,13 @@ at_most_once lo hi bs o f v =
     (λ w. let e : one (within lo hi v) ≡ 1 = ap one w in let p = o v in omega (arith, e, p))
     (λ w. let p = f v w in omega (arith, p))
 
-some_outside : (lo hi : ℤ) (b : Bounds) → fits_in lo hi b ≡ false → (v : ℤ) × (holds v b ≡ true) × (within lo hi v ≡ false)
+pub some_outside : (lo hi : ℤ) (b : Bounds) → fits_in lo hi b ≡ false → (v : ℤ) × (holds v b ≡ true) × (within lo hi v ≡ false)
 some_outside lo hi b f =
     by_cases (int_le lo b.first)
     (λ h. (b.last, grind (arith, ints), grind (arith, ints)))
     (λ h. (b.first, grind (arith, ints), grind (arith, ints)))
 
-fit_inside : (lo hi v : ℤ) (b : Bounds) → fits_in lo hi b ≡ true → holds v b ≡ true → within lo hi v ≡ true
+pub fit_inside : (lo hi v : ℤ) (b : Bounds) → fits_in lo hi b ≡ true → holds v b ≡ true → within lo hi v ≡ true
 fit_inside lo hi v b f h = grind (arith, ints)
 
 nothing : Bounds

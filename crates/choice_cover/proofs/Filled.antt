@@ -37,7 +37,7 @@ more : (b : Bounds) (bs : List Bounds) (v : ℤ) → holds v b ≡ true → 0 < 
 more b bs v h = let e = times_held b bs v h in omega (arith, e)
 
 -- ranges that fill have each value
-filled : (next hi : ℤ) (bs : List Bounds) → fill next hi bs ≡ true → (v : ℤ) → within next hi v ≡ true → 0 < times bs v
+pub filled : (next hi : ℤ) (bs : List Bounds) → fill next hi bs ≡ true → (v : ℤ) → within next hi v ≡ true → 0 < times bs v
 filled next hi [] e v h = absurd (cc)
 filled next hi (b ∷ bs) e v h =
     let rest = fill (int_max next (b.last +ℤ pos 1)) hi bs in
@@ -98,7 +98,7 @@ hole from next hi (b ∷ bs) l h e =
     let k = hole b.first (int_max next (b.last +ℤ pos 1)) hi bs l.2 (still next hi b h (not_to_end (int_le hi b.last) rest g)) (not_after (int_le hi b.last) rest g) in
     record { value = k.value; inside = within_next next hi k.value b k.inside; hole = times_free b bs k.value (free_next next hi k.value b k.inside) ∙ k.hole })
 
-hole_all : (lo hi : ℤ) (bs : List Bounds) → AllLined bs → int_le lo hi ≡ true → fill lo hi bs ≡ false → IsHole lo hi bs
+pub hole_all : (lo hi : ℤ) (bs : List Bounds) → AllLined bs → int_le lo hi ≡ true → fill lo hi bs ≡ false → IsHole lo hi bs
 hole_all lo hi [] l h e = record { value = lo; inside = itself lo hi h; hole = refl }
 hole_all lo hi (b ∷ bs) l h e = hole b.first lo hi (b ∷ bs) (itself_le b.first, l.0, l.1) h e
 

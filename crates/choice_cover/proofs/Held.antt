@@ -41,7 +41,7 @@ pub times_next : (bs : List Bounds) (k : ℕ) (b : Bounds) (v : ℤ) → k < len
 times_next bs k b v h e = sum_by_more (λ (x : Bounds). one (holds v x)) bs k b h ∙ ap (λ (x : Bounds). times (take k bs) v + one (holds v x)) (get_or_from_slice_get bs k b b e)
 
 -- a null range holds nothing
-null_free : (v : ℤ) (b : Bounds) → holds_any b ≡ false → holds v b ≡ false
+pub null_free : (v : ℤ) (b : Bounds) → holds_any b ≡ false → holds v b ≡ false
 null_free v b h = grind (arith, ints)
 
 times-filter : (bs : List Bounds) (v : ℤ) → times (filter holds_any bs) v ≡ times bs v

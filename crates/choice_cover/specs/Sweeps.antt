@@ -1,4 +1,4 @@
--- What a walk over ranges finds, whose first values rise. It serves the proof alone.
+-- What a walk over ranges finds, whose first values rise: the steps of `Covering` and of the code.
 use Rattle.std.specs.Prelude.{ℕ, ◌+◌, ◌<◌, ◌≤◌, length, take, Option, Some, None, Bool, true, false, cond, ◌&&◌, ◌||◌, ℤ, pos, ◌+ℤ◌, List, [], ◌∷◌, int_lt}
 use Rattle.std.specs.Int.{int_max}
 use Rattle.std.specs.Int.RustNames.{int_le}

@@ -2,6 +2,7 @@
 
 ghost use Rattle.std.specs.Prelude.{◌≡◌, IfOk};
 ghost use Rattle.choice_cover.specs.Cover.{IsCover};
+ghost use Rattle.choice_cover.specs.Covering.{covering};
 
 use crate::Starved;
 use crate::bounds::inside_front;
@@ -23,9 +24,7 @@ pub enum Cover {
     Whole,
 }
 
-/// What the ranges are for the values `lo .. hi`, which are none where `hi` is the smaller. A range whose last value is the
-/// smaller holds none. The time grows as n log n, or n (log n)² where a value lies in two ranges.
-pub fn cover_of(alloc: Global, ranges: &[Bounds], lo: i128, hi: i128) -> Result<Cover, Starved>
+fn found_cover(alloc: Global, ranges: &[Bounds], lo: i128, hi: i128) -> Result<Cover, Starved>
     ensures { IfOk result (λ c. IsCover ranges.now lo hi c) }
 {
     let front = inside_front(ranges, lo, hi);
@@ -44,4 +43,14 @@ pub fn cover_of(alloc: Global, ranges: &[Bounds], lo: i128, hi: i128) -> Result<
     } else {
         Ok(Cover::Missing)
     }
+}
+
+/// What the ranges are for the values `lo .. hi`, which are none where `hi` is the smaller. A range whose last value is the
+/// smaller holds none. The time grows as n log n, or n (log n)² where a value lies in two ranges.
+#[tactic(auto, using(crate::proofs::Function::same_as))]
+pub fn cover_of(alloc: Global, ranges: &[Bounds], lo: i128, hi: i128) -> Result<Cover, Starved>
+    ensures is { IfOk result (λ c. IsCover ranges.now lo hi c) }
+    ensures value { IfOk result (λ c. c ≡ covering ranges.now lo hi) }
+{
+    found_cover(alloc, ranges, lo, hi)
 }

@@ -7,7 +7,7 @@ use Rattle.std.proofs.lemmas.Int.{to_z-of_z, ints}
 use Rattle.choice_cover.specs.Sweeps.{IsFirstTwice, fill}
 use Rattle.choice_cover.proofs.Chosen.{all_once, missing_is, none_within, outside_is, twice_is, whole_is}
 use Rattle.choice_cover.proofs.Filled.{filled_sorted, hole_sorted}
-use Rattle.choice_cover.proofs.cover.cover_of.Goals as goal
+use Rattle.choice_cover.proofs.cover.found_cover.Goals as goal
 
 pub returns-in-Some : goal.returns-in-Some
 returns-in-Some c =
