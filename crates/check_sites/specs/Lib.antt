@@ -1,0 +1,5 @@
+pub mod Known
+pub mod Sites
+pub mod Ordered
+pub mod Has
+pub mod Listed

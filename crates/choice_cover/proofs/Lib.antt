@@ -1,0 +1,6 @@
+pub mod Apart
+pub mod Chosen
+pub mod Filled
+pub mod Function
+pub mod Held
+pub mod Only

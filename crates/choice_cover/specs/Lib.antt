@@ -1,0 +1,3 @@
+pub mod Cover
+pub mod Sweeps
+pub mod Covering
