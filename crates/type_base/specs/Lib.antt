@@ -1,1 +1,6 @@
+pub mod Lookups
+pub mod Standard
 pub mod Scope
+pub mod Demands
+pub mod Results
+pub mod Operators

@@ -7,6 +7,6 @@ mod world;
 
 pub use entities::{Access, Entity, EntityTable, Meaning};
 pub use front_codes::{Code, Refusal};
-pub use seen::{Agreed, Demand, Moment, Seen, Want};
+pub use seen::{Agreed, Demand, Family, Index, Moment, Seen, Want};
 pub use std::alloc::AllocError as Starved;
 pub use world::{Component, Discrete, Form, Formal, Routine, Subtype, World};

@@ -67,8 +67,8 @@ pub struct Routine {
     pub result: Option<u32>,
 }
 
-/// What is declared so far, over the whole program. Subtypes, subprograms and constants are numbered in the order in which
-/// they came; the subtypes of package Standard are the first.
+/// What is declared so far, over the whole program. Subtypes and constants are numbered in the order in which they came, the
+/// subtypes of package Standard first; subprograms by the numbers that they have in the program.
 pub struct World {
     pub subtypes: Items<Subtype>,
     pub components: Items<Component>,

@@ -1,0 +1,55 @@
+-- What stands in a world.
+use Rattle.std.specs.Prelude.{ℕ, ◌==◌, List, [], ◌∷◌, Option, Some, None, slice_get, if◌then◌else◌}
+use Rattle.ada_values.specs.declared.values.Value.{Value}
+use Rattle.name_library.specs.declared.links.Spot.{Spot}
+use Rattle.type_base.specs.declared.entities.Entity.{Entity}
+use Rattle.type_base.specs.declared.entities.Entity.TheVariants as entity
+use Rattle.type_base.specs.declared.entities.Meaning.{Meaning}
+use Rattle.type_base.specs.declared.world.Component.{Component}
+use Rattle.type_base.specs.declared.world.Form.{Form}
+use Rattle.type_base.specs.declared.world.Formal.{Formal}
+use Rattle.type_base.specs.declared.world.Routine.{Routine}
+use Rattle.type_base.specs.declared.world.Subtype.{Subtype}
+use Rattle.type_base.specs.declared.world.World.{World}
+
+abbrev pub subtype_at : World → ℕ → Option Subtype
+subtype_at w k = slice_get w.subtypes k
+
+abbrev pub form_in : Option Subtype → Option Form
+form_in (Some s) = Some s.form
+form_in None = None
+
+abbrev pub form_at : World → ℕ → Option Form
+form_at w k = form_in (subtype_at w k)
+
+abbrev pub type_in : Option Subtype → Option ℕ
+type_in (Some s) = Some s.of
+type_in None = None
+
+-- the number of the type of a subtype
+abbrev pub type_at : World → ℕ → Option ℕ
+type_at w k = type_in (subtype_at w k)
+
+abbrev pub component_at : World → ℕ → Option Component
+component_at w k = slice_get w.components k
+
+abbrev pub formal_at : World → ℕ → Option Formal
+formal_at w k = slice_get w.formals k
+
+abbrev pub routine_at : World → ℕ → Option Routine
+routine_at w k = slice_get w.routines k
+
+abbrev pub constant_at : World → ℕ → Option Value
+constant_at w k = slice_get w.constants k
+
+abbrev pub meaning_in : List Meaning → ℕ → Entity
+meaning_in [] at = entity.Unknown
+meaning_in (m ∷ ms) at = if m.at == at then m.entity else meaning_in ms at
+
+abbrev pub meaning_of : Option (List Meaning) → ℕ → Entity
+meaning_of (Some ms) at = meaning_in ms at
+meaning_of None at = entity.Unknown
+
+-- what the declaring identifier at a place stands for
+abbrev pub entity_at : World → Spot → Entity
+entity_at w s = meaning_of (slice_get w.entities s.file) s.at
