@@ -11,3 +11,4 @@ pub mod Conditions
 pub mod Kinds
 pub mod Forms
 pub mod Reading
+pub mod Cases
