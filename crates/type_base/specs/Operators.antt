@@ -101,12 +101,22 @@ operands w f pa pb a b = agree w (rule_of f) pa pb (operand w (demand_of f) (rul
 abbrev pub powers : World → Want → Place → Place → Seen → Seen → Agreed
 powers w v pa pb a b = raised w v pa pb (operand w demand.Integer L2 pa a) (exponent pb b)
 
+-- the operands of a family's operator, in a context
+abbrev pub matched : World → Want → Place → Place → Family → Seen → Seen → Agreed
+matched w v pa pb (family.Arithmetic c) a b = operands w (family.Arithmetic c) pa pb a b
+matched w v pa pb (family.Compare r) a b = operands w (family.Compare r) pa pb a b
+matched w v pa pb (family.Connect c) a b = operands w (family.Connect c) pa pb a b
+matched w v pa pb family.Power a b = powers w v pa pb a b
+
+abbrev pub with_operator : World → Place → Place → Place → Family → Agreed → Seen
+with_operator w p o pb (family.Arithmetic c) g = arithmetic w p o pb c g
+with_operator w p o pb (family.Compare r) g = comparison w p pb r g
+with_operator w p o pb (family.Connect c) g = connection p c g
+with_operator w p o pb family.Power g = arithmetic w p o pb op.Pow g
+
 -- what two operands give with their operator, in a context
 abbrev pub joined : World → Want → Place → Place → Place → Place → Family → Seen → Seen → Seen
-joined w v p o pa pb (family.Arithmetic c) a b = arithmetic w p o pb c (operands w (family.Arithmetic c) pa pb a b)
-joined w v p o pa pb (family.Compare r) a b = comparison w p pb r (operands w (family.Compare r) pa pb a b)
-joined w v p o pa pb (family.Connect c) a b = connection p c (operands w (family.Connect c) pa pb a b)
-joined w v p o pa pb family.Power a b = arithmetic w p o pb op.Pow (powers w v pa pb a b)
+joined w v p o pa pb f a b = with_operator w p o pb f (matched w v pa pb f a b)
 
 -- ---- operators of one operand, which stands at q
 

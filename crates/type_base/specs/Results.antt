@@ -98,10 +98,18 @@ typed_result p q t s (Err fault.Overflow) = refused code.TooWide p
 typed_result p q t s (Err fault.ZeroDivisor) = refused code.L29 q
 typed_result p q t s (Err fault.NegativeExponent) = refused code.L29 q
 
--- an operation on static operands of type t: the exact result, or that modulo the type's modulus
+-- a scalar type, and what an operation on numbers gives in it: the exact result, or that modulo its modulus
+abbrev pub computed : Op → ℤ → ℤ → Option Form → Option (Scalar × Result ℤ OpFault)
+computed o a b (Some (form.Number d s)) = Some (s, combined o (widened s) a b)
+computed o a b _ = None
+
+abbrev pub settled : Place → Place → ℕ → Option (Scalar × Result ℤ OpFault) → Seen
+settled p q t (Some e) = typed_result p q t e.0 e.1
+settled p q t None = Unknown
+
+-- an operation on static operands of type t
 abbrev pub static_result : Place → Place → ℕ → Op → ℤ → ℤ → Option Form → Seen
-static_result p q t o a b (Some (form.Number d s)) = typed_result p q t s (combined o (widened s) a b)
-static_result p q t o a b _ = Unknown
+static_result p q t o a b m = settled p q t (computed o a b m)
 
 abbrev pub arithmetic_of : World → Place → Place → Place → Op → ℕ → Expr → Expr → Option ℤ → Option ℤ → Seen
 arithmetic_of w p o q c t x y (Some a) (Some b) = static_result p q t c a b (form_at w t)

@@ -1,6 +1,12 @@
 //! What names stand for.
 
+ghost use Rattle.std.specs.Prelude.{◌≡◌, []};
+ghost use Rattle.std.specs.Prelude.{slice_get};
+ghost use Rattle.type_base.specs.Lookups.{AreRising, meaning_in, meaning_of};
+
+use name_library::Spot;
 use sqlite_items::Items;
+use std::alloc::Global;
 use std::marker::Model;
 use typed_units::Object;
 
@@ -42,7 +48,7 @@ pub struct Meaning {
     pub entity: Entity,
 }
 
-/// What the declaring identifiers of a file stand for, in the order of the text.
+/// What the declaring identifiers of a file stand for, in the order of the text. Contracts see the list of these.
 pub struct FileMeanings {
     items: Items<Meaning>,
 }
@@ -58,10 +64,13 @@ impl Drop for FileMeanings {
 impl Model for FileMeanings {
     ghost use Rattle.std.specs.Prelude.{List};
     ghost use Rattle.type_base.specs.declared.entities.Meaning.{Meaning};
+    ghost use Rattle.type_base.specs.Lookups.{AreRising};
 
     ghost Value = { List Meaning };
 
     ghost view = { λ f. f.items };
+
+    ghost invariant = { λ f. AreRising 0 f.items };
 }
 
 /// What the declaring identifiers of a program stand for, file by file. Contracts see a list of lists.
@@ -84,4 +93,56 @@ impl Model for EntityTable {
     ghost Value = { List (List Meaning) };
 
     ghost view = { λ t. t.files };
+}
+
+impl FileMeanings {
+    /// No meanings.
+    pub fn new(alloc: Global) -> FileMeanings
+        ensures { result ≡ [] }
+    {
+        FileMeanings {
+            items: Items::new(alloc),
+        }
+    }
+
+    /// What the declaring identifier at a byte stands for, `Unknown` where none is declared there. In logarithmic time.
+    pub fn get(&self, at: u32) -> Entity
+        ensures { result ≡ meaning_in self.now at }
+    {
+        let mut rest = self.items.as_slice();
+        while !rest.is_empty() {
+            let middle = rest.len() / 2;
+            let found = rest[middle];
+            if found.at == at {
+                return found.entity;
+            }
+            if found.at < at {
+                rest = &rest[middle + 1..];
+            } else {
+                rest = &rest[..middle];
+            }
+        }
+        Entity::Unknown
+    }
+}
+
+impl EntityTable {
+    /// A table without files.
+    pub fn new(alloc: Global) -> EntityTable
+        ensures { result ≡ [] }
+    {
+        EntityTable {
+            files: Items::new(alloc),
+        }
+    }
+
+    /// What the declaring identifier at a place stands for, `Unknown` where none is declared there.
+    pub fn get(&self, spot: Spot) -> Entity
+        ensures { result ≡ meaning_of (slice_get self.now spot.file) spot.at }
+    {
+        match self.files.get(spot.file as usize) {
+            Some(file) => file.get(spot.at),
+            None => Entity::Unknown,
+        }
+    }
 }

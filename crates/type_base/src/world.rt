@@ -1,7 +1,13 @@
 //! What is declared over the whole program: subtypes, components, subprograms and their formals, constants.
 
-use crate::entities::EntityTable;
+ghost use Rattle.std.specs.Prelude.{◌≡◌};
+ghost use Rattle.std.specs.Option.{option_copied};
+ghost use Rattle.type_base.specs.Lookups.{component_at, constant_at, entity_at, form_at, formal_at, routine_at, subtype_at, type_at};
+
+use crate::entities::{Entity, EntityTable};
+use crate::subtypes::Subtypes;
 use ada_values::{Scalar, Value};
+use name_library::Spot;
 use sqlite_items::Items;
 use typed_units::{Bounds, Mode};
 
@@ -70,7 +76,7 @@ pub struct Routine {
 /// What is declared so far, over the whole program. Subtypes and constants are numbered in the order in which they came, the
 /// subtypes of package Standard first; subprograms by the numbers that they have in the program.
 pub struct World {
-    pub subtypes: Items<Subtype>,
+    pub subtypes: Subtypes,
     pub components: Items<Component>,
     pub formals: Items<Formal>,
     pub routines: Items<Routine>,
@@ -96,5 +102,66 @@ impl Drop for World {
         drop(routines);
         drop(constants);
         drop(entities);
+    }
+}
+
+impl World {
+    /// The subtype of a number.
+    pub fn subtype(&self, number: u32) -> Option<Subtype>
+        ensures { result ≡ subtype_at self.now number }
+    {
+        self.subtypes.get(number)
+    }
+
+    /// The form of the subtype of a number.
+    pub fn form(&self, number: u32) -> Option<Form>
+        ensures { result ≡ form_at self.now number }
+    {
+        self.subtypes.form(number)
+    }
+
+    /// The number of the type of the subtype of a number.
+    pub fn type_of(&self, number: u32) -> Option<u32>
+        ensures { result ≡ type_at self.now number }
+    {
+        match self.subtypes.get(number) {
+            Some(subtype) => Some(subtype.of),
+            None => None,
+        }
+    }
+
+    /// The component of a number, among those of all records.
+    pub fn component(&self, number: u32) -> Option<Component>
+        ensures { result ≡ component_at self.now number }
+    {
+        self.components.get(number as usize).copied()
+    }
+
+    /// The formal of a number, among those of all subprograms.
+    pub fn formal(&self, number: u32) -> Option<Formal>
+        ensures { result ≡ formal_at self.now number }
+    {
+        self.formals.get(number as usize).copied()
+    }
+
+    /// The subprogram of a number.
+    pub fn routine(&self, number: u32) -> Option<Routine>
+        ensures { result ≡ routine_at self.now number }
+    {
+        self.routines.get(number as usize).copied()
+    }
+
+    /// The value of the constant of a number.
+    pub fn constant(&self, number: u32) -> Option<&Value>
+        ensures { option_copied result ≡ constant_at self.now number }
+    {
+        self.constants.get(number as usize)
+    }
+
+    /// What the declaring identifier at a place stands for, `Unknown` where none is declared there.
+    pub fn entity(&self, spot: Spot) -> Entity
+        ensures { result ≡ entity_at self.now spot }
+    {
+        self.entities.get(spot)
     }
 }
