@@ -238,6 +238,11 @@ pub data Sort : Type 0 where
   rest : Operand → Sort
   misfit : Sort
 
+-- a range without values is the only choice (Ada RM 4.3.3(17))
+abbrev pub some_values : Bool → Place → Found Bounds → Found Bounds
+some_values alone q (Is b) = if is_empty b && not alone then Refused (broken code.L16 q) else Is b
+some_values alone q r = r
+
 abbrev pub sort_by : Scope → ℕ → Choice → Option Operand → Sort
 sort_by c t (single o) None = positional o
 sort_by c t (single o) (Some v) = chosen (with_found choice_range (single_choice c code.L16 t o)) v
@@ -273,6 +278,9 @@ stopped c g x = record { gathered = misplaced c g x.from; partial = true }
 
 abbrev pub with_rest : Scope → Array → Gathered → Operand → Items
 with_rest c a g o = record { gathered = record { ranges = g.ranges; done = added_item g.done (item_found c a.item [] true (Some o)) }; partial = true }
+
+abbrev pub is_only : ℕ → List Arg → Bool
+is_only n xs = (n == 0) && is_end xs
 
 -- The associations of an array, after n others: all positional, or all with choices, and `others` at the end. What follows one that
 -- isn't so isn't looked at. -- L16

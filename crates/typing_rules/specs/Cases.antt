@@ -11,6 +11,7 @@ use Rattle.ada_values.specs.declared.place.Place.{Place}
 use Rattle.ada_values.specs.declared.scalars.Scalar.{Scalar}
 use Rattle.ada_values.specs.declared.values.Value.TheVariants as value
 use Rattle.front_codes.specs.declared.codes.Code.{Code}
+use Rattle.front_codes.specs.declared.codes.Refusal.{Refusal}
 use Rattle.name_library.specs.declared.links.Link.{Link}
 use Rattle.name_library.specs.declared.links.Link.TheVariants as link
 use Rattle.syntax_view.specs.Trees as tree
@@ -263,11 +264,14 @@ natural_bounds = from_to 0 2147483647
 abbrev pub counted : ℕ → ℕ → ℕ
 counted n k = n
 
+abbrev pub refusal : Code → ℕ → Refusal
+refusal r at = record { code = r; place = place at }
+
 abbrev pub refused_call : Code → ℕ → Found Call
-refused_call r at = found.Refused (record { code = r; place = place at })
+refused_call r at = found.Refused (refusal r at)
 
 abbrev pub refuses : Code → ℕ → Seen
-refuses r at = seen.Refused (record { code = r; place = place at })
+refuses r at = seen.Refused (refusal r at)
 
 -- an expression at a place, of a subtype
 abbrev pub ex : ℕ → ℕ → ExprNode Expr → Expr

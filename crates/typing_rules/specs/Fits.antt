@@ -43,6 +43,11 @@ both f (Refused g) b = with_refused g b
 both f Unknown b = with_unknown b
 both f (Is a) b = with_found (f a) b
 
+abbrev pub found_fault : {A : Type 0} → Found A → Option Refusal
+found_fault (Refused f) = Some f
+found_fault Unknown = None
+found_fault (Is a) = None
+
 -- what is found beside a refusal
 abbrev pub spoiled : {A : Type 0} → Found A → Refusal → Found A
 spoiled a f = with_refused f a

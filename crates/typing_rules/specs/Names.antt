@@ -6,6 +6,7 @@ use Rattle.ada_values.specs.declared.values.Value.{Value}
 use Rattle.ada_values.specs.declared.values.Value.TheVariants as value
 use Rattle.front_codes.specs.declared.codes.Code.{Code}
 use Rattle.front_codes.specs.declared.codes.Code.TheVariants as code
+use Rattle.front_codes.specs.declared.codes.Refusal.{Refusal}
 use Rattle.name_library.specs.declared.links.Link.{Link}
 use Rattle.typed_units.specs.declared.expressions.Expr.{Expr, out-Expr}
 use Rattle.typed_units.specs.declared.expressions.ExprNode.{ExprNode}
@@ -38,7 +39,7 @@ use Rattle.typing_rules.specs.Calls.{arguments, operand_of, same_type}
 use Rattle.typing_rules.specs.Fits.{both, spoiled, fit, refused_beside, seen_then}
 use Rattle.typing_rules.specs.Lookups.{Array, array_at, components_at, entity_by, place_among, seen_as, type_of}
 use Rattle.typing_rules.specs.Parts.{Arg, Choice, Operand, between, others, single}
-use Rattle.typing_rules.specs.Values.{call_value, component_subtype, entity_prefix, formals_of, item_subtype, no_arguments, place_of, seen_of, value_of}
+use Rattle.typing_rules.specs.Values.{call_value, component_subtype, entity_prefix, formals_of, item_subtype, no_arguments, place_of, prefix_fault, seen_of, value_of}
 
 -- the only argument, where it is an expression alone
 abbrev pub alone_by : Choice → Option Operand → List Arg → Option Operand
@@ -79,9 +80,13 @@ abbrev pub component : Scope → Place → ℕ → Prefix → Prefix
 component c p m (prefix.Part g) = part_component p m g (components_at c.world g.subtype)
 component c p m f = prefix.Value (value_component c p m (value_of c p f))
 
+abbrev pub unless_refused : Option Refusal → Prefix → Prefix
+unless_refused (Some f) g = prefix.Value (seen.Refused f)
+unless_refused None g = g
+
 -- an identifier that has a link starts anew; another is a component
 abbrev pub selected_by : Scope → Place → Prefix → ℕ → Option Link → Prefix
-selected_by c p f at (Some l) = entity_prefix c p (entity_by c (Some l))
+selected_by c p f at (Some l) = unless_refused (prefix_fault f) (entity_prefix c p (entity_by c (Some l)))
 selected_by c p f at None = component c p (c.name at) f
 
 abbrev pub selection : Scope → Place → Prefix → ℕ → Prefix

@@ -15,8 +15,8 @@ ghost use Rattle.typed_units.specs.declared.operators.Relation.TheVariants as re
 ghost use Rattle.type_base.specs.declared.seen.Seen.TheVariants as seen';
 ghost use Rattle.type_base.specs.declared.seen.Want.TheVariants as want;
 ghost use Rattle.typing_rules.specs.declared.prefix.Found.TheVariants as found;
-ghost use Rattle.typing_rules.specs.Reading.{call_seen, seen};
-ghost use Rattle.typing_rules.specs.Cases.{arg, args, assoc, binary, bounds, call, counted, dot, ex, for_all, from_to, group, id, if_alone, if_else, in_group, in_loop, int, lone, member, name, name_tree, natural_bounds, num, obj, place, post, qualified, refused_call, refuses, rest, scope, seen_at, static, static_truth, tick, tick_range, truth_at, unary, with_choice, with_others, with_range};
+ghost use Rattle.typing_rules.specs.Reading.{call_seen, faults, seen};
+ghost use Rattle.typing_rules.specs.Cases.{arg, args, assoc, binary, bounds, call, counted, dot, ex, for_all, from_to, group, id, if_alone, if_else, in_group, in_loop, int, lone, member, name, name_tree, natural_bounds, num, obj, place, post, qualified, refusal, refused_call, refuses, rest, scope, seen_at, static, static_truth, tick, tick_range, truth_at, unary, with_choice, with_others, with_range};
 
 /// Operands of arithmetic operators, and universal numbers (Ada RM 4.5.3, 4.9). -- L1, L29, TooWide
 #[tactic(auto, unfolding(name_numbers::specs::Numbers::word_of))]
@@ -136,6 +136,7 @@ pub fn aggregates()
     ensures too_many { seen scope (want.Subtype 12) (group 100 (arg 200 (num 200 7) ∷ arg 300 (num 300 8) ∷ arg 400 (num 400 8) ∷ arg 500 (num 500 8) ∷ [])) ≡ refuses code.L16 500 }
     ensures twice { seen scope (want.Subtype 12) (group 100 (with_range 200 (num 200 1) (num 250 3) (num 300 8) ∷ with_choice 400 (num 400 1) (num 450 9) ∷ [])) ≡ refuses code.L16 400 }
     ensures not_static { seen scope (want.Subtype 12) (group 100 (with_choice 260 (id 260) (num 300 8) ∷ with_others 400 (num 450 9) ∷ [])) ≡ refuses code.L16 260 }
+    ensures empty_range { seen scope (want.Subtype 12) (group 100 (with_range 200 (num 200 1) (num 250 0) (num 300 8) ∷ with_others 400 (num 450 9) ∷ [])) ≡ refuses code.L16 200 }
     ensures both_ways { seen scope (want.Subtype 12) (group 100 (arg 200 (num 200 7) ∷ with_range 300 (num 300 2) (num 350 3) (num 400 8) ∷ [])) ≡ refuses code.L16 300 }
     ensures record_by_names { seen scope (want.Subtype 14) (group 100 (with_choice 290 (id 290) (num 300 8) ∷ with_choice 491 (id 491) (id 563) ∷ [])) ≡ seen_at 14 100 14 (node.Aggregate composite.Record (from_to 0 1) (assoc 0 0 (int 300 1 8) ∷ assoc 1 1 (obj 563 12 2) ∷ [])) }
     ensures record_beside { seen scope want.Free (binary 165 50 binary'.Equal (id 165) (group 100 (arg 200 (num 200 8) ∷ arg 363 (id 363) ∷ []))) ≡ truth_at 165 (node.Compare relation.Equal (obj 165 14 3) (ex 100 14 (node.Aggregate composite.Record (from_to 0 1) (assoc 0 0 (int 200 1 8) ∷ assoc 1 1 (obj 363 12 2) ∷ [])))) }
@@ -161,4 +162,15 @@ pub fn conditional()
     ensures over_a_subtype { seen scope want.Free (in_group 100 (for_all 83 (lone (id 276)) (id 362))) ≡ truth_at 100 (node.Quantified quantifier.All (counted 4 16) (int 276 16 1) (int 276 16 10) (obj 362 0 1)) }
     ensures over_truth { seen scope want.Free (in_group 100 (for_all 83 (lone (id 200)) (id 362))) ≡ refuses code.L23 200 }
     ensures predicate { seen scope want.Free (in_group 100 (for_all 83 (lone (id 276)) (id 360))) ≡ refuses code.L23 360 }
+{}
+
+/// All broken rules of an expression. The refusal is the first of them by its place and its rule.
+#[tactic(auto, unfolding(name_numbers::specs::Numbers::word_of))]
+pub fn broken_rules()
+    ensures none { faults scope want.Free (binary 160 2 binary'.Add (id 160) (num 300 4)) ≡ [] }
+    ensures each_operand { faults scope want.Free (binary 162 2 binary'.Add (id 162) (binary 360 370 binary'.Add (id 360) (id 466))) ≡ refusal code.L1 162 ∷ refusal code.L1 466 ∷ [] }
+    ensures beside_a_refused_declaration { faults scope want.Free (name 181 (call (arg 360 (unary 360 unary'.Not (id 460)) ∷ []) ∷ [])) ≡ refusal code.L4 460 ∷ refusal code.L4 460 ∷ [] }
+    ensures items_and_their_number { faults scope (want.Subtype 12) (group 100 (arg 262 (id 262) ∷ arg 362 (id 362) ∷ [])) ≡ refusal code.L8 262 ∷ refusal code.L8 362 ∷ refusal code.L16 100 ∷ [] }
+    ensures subtype_as_value { faults scope want.Free (binary 160 2 binary'.Add (id 160) (id 376)) ≡ refusal code.L12 376 ∷ [] }
+    ensures conditions_and_branches { faults scope want.Free (in_group 100 (if_else (id 260) (id 360) (id 462))) ≡ refusal code.L9 260 ∷ refusal code.L26 462 ∷ [] }
 {}
