@@ -1,15 +1,13 @@
 -- Attributes. -- Ada RM 3.5, 3.5.5, 3.6.2, 6.1.1, SPARK RM 5.5.3.1; L19
-use Rattle.std.specs.Prelude.{ℕ, ℤ, pos, ◌+ℤ◌, ◌-ℤ◌, Bool, true, false, not, ◌==◌, ◌&&◌, List, [], ◌∷◌, Option, Some, None, if◌then◌else◌}
+use Rattle.std.specs.Prelude.{ℕ, ℤ, pos, ◌+ℤ◌, ◌-ℤ◌, Bool, true, false, not, ◌==◌, List, [], ◌∷◌, Option, Some, None, if◌then◌else◌}
 use Rattle.ada_values.specs.Scalars.{in_base}
 use Rattle.ada_values.specs.declared.place.Place.{Place}
-use Rattle.ada_values.specs.declared.scalars.Scalar.{Scalar}
 use Rattle.ada_values.specs.declared.values.Value.TheVariants as value
-use Rattle.front_codes.specs.declared.codes.Code.{Code}
 use Rattle.front_codes.specs.declared.codes.Code.TheVariants as code
 use Rattle.name_numbers.specs.Numbers.{word_of}
 use Rattle.name_numbers.specs.declared.words.Word.{Word}
 use Rattle.name_numbers.specs.declared.words.Word.TheVariants as word
-use Rattle.typed_units.specs.declared.expressions.Expr.{Expr, out-Expr}
+use Rattle.typed_units.specs.declared.expressions.Expr.{Expr}
 use Rattle.typed_units.specs.declared.expressions.ExprNode.{ExprNode}
 use Rattle.typed_units.specs.declared.expressions.ExprNode.TheVariants as node
 use Rattle.typed_units.specs.declared.expressions.Step.{Step}
@@ -30,8 +28,8 @@ use Rattle.type_base.specs.declared.world.Form.{Form}
 use Rattle.type_base.specs.declared.world.Form.TheVariants as form
 use Rattle.type_base.specs.declared.world.Routine.{Routine}
 use Rattle.type_base.specs.declared.world.World.{World}
-use Rattle.type_base.specs.Demands.{bounds_at, broken, check_in, is_integer, known, made, refused, subtype_of, wanted_integer}
-use Rattle.type_base.specs.Lookups.{form_at, routine_at, type_at}
+use Rattle.type_base.specs.Demands.{bounds_at, check_in, is_integer, known, made, refused, subtype_of, wanted_integer}
+use Rattle.type_base.specs.Lookups.{form_at, routine_at}
 use Rattle.type_base.specs.Results.{number_in}
 use Rattle.type_base.specs.Standard.{integer_base}
 use Rattle.typing_rules.specs.declared.prefix.Mapping.{Mapping}
@@ -41,7 +39,7 @@ use Rattle.typing_rules.specs.declared.prefix.Prefix.{Prefix}
 use Rattle.typing_rules.specs.declared.prefix.Prefix.TheVariants as prefix
 use Rattle.typing_rules.specs.Lookups.{Array, array_at, seen_as, size_of, type_of}
 use Rattle.typing_rules.specs.Names.{of_type}
-use Rattle.typing_rules.specs.Parts.{Arg, Operand}
+use Rattle.typing_rules.specs.Parts.{Operand}
 use Rattle.typing_rules.specs.Values.{part_value, place_of, seen_of, value_of}
 
 -- ---- what arrays an attribute may be of

@@ -8,7 +8,6 @@ use Rattle.ada_syntax.specs.declared.expressions.BinaryOperator.{BinaryOperator}
 use Rattle.ada_syntax.specs.declared.expressions.Quantifier.TheVariants as quantifier'
 use Rattle.ada_syntax.specs.declared.expressions.UnaryOperator.{UnaryOperator}
 use Rattle.ada_values.specs.declared.place.Place.{Place}
-use Rattle.ada_values.specs.declared.scalars.Scalar.{Scalar}
 use Rattle.ada_values.specs.declared.values.Value.TheVariants as value
 use Rattle.front_codes.specs.declared.codes.Code.{Code}
 use Rattle.front_codes.specs.declared.codes.Refusal.{Refusal}
@@ -23,7 +22,7 @@ use Rattle.typed_units.specs.declared.operators.Bounds.{Bounds}
 use Rattle.typed_units.specs.declared.operators.Object.TheVariants as object
 use Rattle.typed_units.specs.declared.programs.Mode.TheVariants as mode
 use Rattle.type_base.specs.Scope.{Scope}
-use Rattle.type_base.specs.Standard.{standard_entities, standard_subtypes}
+use Rattle.type_base.specs.Standard.{standard_subtypes}
 use Rattle.type_base.specs.declared.entities.Access.TheVariants as access
 use Rattle.type_base.specs.declared.entities.Entity.{Entity}
 use Rattle.type_base.specs.declared.entities.Entity.TheVariants as entity
@@ -32,13 +31,9 @@ use Rattle.type_base.specs.declared.seen.Moment.{Moment}
 use Rattle.type_base.specs.declared.seen.Moment.TheVariants as moment
 use Rattle.type_base.specs.declared.seen.Seen.{Seen}
 use Rattle.type_base.specs.declared.seen.Seen.TheVariants as seen
-use Rattle.type_base.specs.declared.world.Component.{Component}
 use Rattle.type_base.specs.declared.world.Discrete.{Discrete}
 use Rattle.type_base.specs.declared.world.Discrete.TheVariants as discrete
-use Rattle.type_base.specs.declared.world.Form.{Form}
 use Rattle.type_base.specs.declared.world.Form.TheVariants as form
-use Rattle.type_base.specs.declared.world.Formal.{Formal}
-use Rattle.type_base.specs.declared.world.Routine.{Routine}
 use Rattle.type_base.specs.declared.world.Subtype.{Subtype}
 use Rattle.type_base.specs.declared.world.World.{World}
 use Rattle.typing_rules.specs.declared.prefix.Call.{Call}

@@ -1,7 +1,6 @@
 -- All broken rules of an expression, a line for each demand. What one part demands doesn't wait for another; what concerns
 -- several waits for all of them.
 use Rattle.std.specs.Prelude.{ℕ, suc, ℤ, Bool, true, false, ◌==◌, ◌||◌, ◌++◌, List, [], ◌∷◌, length, slice_get, Option, Some, None, is_some, if◌then◌else◌}
-use Rattle.ada_syntax.specs.declared.expressions.Quantifier.{Quantifier}
 use Rattle.ada_values.specs.declared.place.Place.{Place}
 use Rattle.front_codes.specs.declared.codes.Code.{Code}
 use Rattle.front_codes.specs.declared.codes.Code.TheVariants as code
@@ -11,10 +10,10 @@ use Rattle.typed_units.specs.declared.programs.Mode.{Mode}
 use Rattle.typed_units.specs.declared.programs.Mode.TheVariants as mode
 use Rattle.type_base.specs.Demands.{operand, subtype_of}
 use Rattle.type_base.specs.Faults.{binary_faults, fault, fault_of, listed, operand_fault, pair_fault, unary_faults}
-use Rattle.type_base.specs.Lookups.{form_at, routine_at, type_at}
+use Rattle.type_base.specs.Lookups.{form_at, routine_at}
 use Rattle.type_base.specs.Operators.{family_of}
 use Rattle.type_base.specs.Scope.{Scope}
-use Rattle.type_base.specs.Standard.{boolean, integer_base}
+use Rattle.type_base.specs.Standard.{boolean}
 use Rattle.type_base.specs.declared.seen.Demand.TheVariants as demand
 use Rattle.type_base.specs.declared.seen.Family.{Family}
 use Rattle.type_base.specs.declared.seen.Seen.{Seen}
@@ -26,7 +25,6 @@ use Rattle.type_base.specs.declared.world.Form.{Form as TypeForm}
 use Rattle.type_base.specs.declared.world.Form.TheVariants as form
 use Rattle.type_base.specs.declared.world.Formal.{Formal}
 use Rattle.type_base.specs.declared.world.Routine.{Routine}
-use Rattle.typing_rules.specs.declared.prefix.Between.{Between}
 use Rattle.typing_rules.specs.declared.prefix.Found.{Found}
 use Rattle.typing_rules.specs.declared.prefix.Found.TheVariants as found
 use Rattle.typing_rules.specs.declared.prefix.Mapping.{Mapping}
@@ -36,14 +34,14 @@ use Rattle.typing_rules.specs.declared.prefix.Prefix.TheVariants as prefix
 use Rattle.typing_rules.specs.declared.prefix.Reach.{Reach}
 use Rattle.typing_rules.specs.declared.prefix.Reach.TheVariants as reach
 use Rattle.typing_rules.specs.Aggregates.{Gives, Items, Manner, Sort, by_choice, by_place, chosen, components_for, covered, either, first_given, is_end, is_only, item_found, items, misfit, none_gathered, positional, position_range, ranges_in, rest, some_values, sort_of, value_for}
-use Rattle.typing_rules.specs.Calls.{actual_of, argument_for, formal_for, is_named, operand_of, variable}
-use Rattle.typing_rules.specs.Conditions.{Common, branch, branch_want, chosen_else, common_of, condition, index_subtype}
+use Rattle.typing_rules.specs.Calls.{actual_of, formal_for, is_named, operand_of}
+use Rattle.typing_rules.specs.Conditions.{Common, branch, branch_want, chosen_else, common_of, index_subtype}
 use Rattle.typing_rules.specs.Fits.{found_fault}
-use Rattle.typing_rules.specs.Forms.{application, binary_seen, left_want, right_want, suffix_prefix}
+use Rattle.typing_rules.specs.Forms.{left_want, right_want, suffix_prefix}
 use Rattle.typing_rules.specs.Kinds.{branches_kind, range_kind}
 use Rattle.typing_rules.specs.Lookups.{Array, array_at, components_at, entity_of, type_of}
 use Rattle.typing_rules.specs.Names.{only_operand}
-use Rattle.typing_rules.specs.Parts.{Arg, Arm, Choice, Form, Operand, Range, Suffix, applied, attribute, between, binary, choose, group, member, name, null, number, others, qualified, quantified, range_attribute, selected, single, unary}
+use Rattle.typing_rules.specs.Parts.{Arg, Arm, Choice, Form, Operand, Range, Suffix, applied, between, binary, choose, group, member, name, null, number, others, qualified, quantified, single, unary}
 use Rattle.typing_rules.specs.Ranges.{member_by, range_found, reach_by, reach_of, single_choice, value_at, want_or, weaker}
 use Rattle.typing_rules.specs.Values.{entity_prefix, formals_of, place_of, prefix_fault, seen_of, value_of}
 

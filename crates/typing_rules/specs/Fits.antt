@@ -1,5 +1,5 @@
 -- What is found of several parts, and values that are to be of a subtype. -- Ada RM 4.6, 5.2, 6.4.1
-use Rattle.std.specs.Prelude.{ℕ, Bool, true, false, not, ◌&&◌, ◌||◌, ◌==◌, Option, Some, None, if◌then◌else◌}
+use Rattle.std.specs.Prelude.{ℕ, Bool, true, false, not, ◌&&◌, ◌==◌, Option, Some, None, if◌then◌else◌}
 use Rattle.std.specs.Ordering.{int_eq}
 use Rattle.ada_values.specs.declared.place.Place.{Place}
 use Rattle.front_codes.specs.Codes.{first_of_two}
@@ -8,7 +8,6 @@ use Rattle.front_codes.specs.declared.codes.Refusal.{Refusal}
 use Rattle.typed_units.specs.declared.expressions.Expr.{Expr}
 use Rattle.typed_units.specs.declared.expressions.Fitted.{Fitted}
 use Rattle.typed_units.specs.declared.operators.Bounds.{Bounds}
-use Rattle.type_base.specs.Scope.{Scope}
 use Rattle.type_base.specs.declared.seen.Seen.{Seen}
 use Rattle.type_base.specs.declared.seen.Seen.TheVariants as seen
 use Rattle.type_base.specs.declared.world.Form.{Form}

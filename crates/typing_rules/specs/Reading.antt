@@ -1,6 +1,5 @@
 -- What is seen of an expression: the rules of its form over what is seen of its parts.
-use Rattle.std.specs.Prelude.{ℕ, ℤ, Bool, true, false, List, [], ◌∷◌, Option, Some, None}
-use Rattle.ada_text.specs.declared.token.Span.{Span}
+use Rattle.std.specs.Prelude.{ℕ, List, [], ◌∷◌, Option, Some, None}
 use Rattle.ada_values.specs.declared.place.Place.{Place}
 use Rattle.front_codes.specs.declared.codes.Code.{Code}
 use Rattle.front_codes.specs.declared.codes.Code.TheVariants as code
@@ -19,12 +18,12 @@ use Rattle.type_base.specs.Lookups.{routine_at}
 use Rattle.typing_rules.specs.declared.prefix.Between.{Between}
 use Rattle.typing_rules.specs.declared.prefix.Call.{Call}
 use Rattle.typing_rules.specs.declared.prefix.Found.{Found}
-use Rattle.typing_rules.specs.declared.prefix.Found.TheVariants.{Refused, Unknown, Is}
+use Rattle.typing_rules.specs.declared.prefix.Found.TheVariants.{Refused, Unknown}
 use Rattle.typing_rules.specs.declared.prefix.Part.{Part}
 use Rattle.typing_rules.specs.declared.prefix.Prefix.{Prefix}
 use Rattle.typing_rules.specs.declared.prefix.Prefix.TheVariants as prefix
 use Rattle.typing_rules.specs.Calls.{variable}
-use Rattle.typing_rules.specs.Faults.{faults_of, form_faults, name_faults}
+use Rattle.typing_rules.specs.Faults.{faults_of, form_faults}
 use Rattle.typing_rules.specs.Fits.{with_found}
 use Rattle.typing_rules.specs.Forms.{form_kind, form_prefix, is_identifier, name_prefix}
 use Rattle.typing_rules.specs.Lookups.{with_index}

@@ -1,5 +1,5 @@
 -- What a name stands for, and the value that it is. -- Ada RM 4.1, 6.4
-use Rattle.std.specs.Prelude.{ℕ, zero, suc, ℤ, Bool, true, false, List, [], ◌∷◌, ◌++◌, Option, Some, None, take, drop, length}
+use Rattle.std.specs.Prelude.{ℕ, zero, suc, List, [], ◌∷◌, Option, Some, None, take, drop}
 use Rattle.ada_values.specs.declared.place.Place.{Place}
 use Rattle.ada_values.specs.declared.values.Value.{Value}
 use Rattle.front_codes.specs.declared.codes.Code.TheVariants as code
@@ -30,7 +30,7 @@ use Rattle.typing_rules.specs.declared.prefix.Part.{Part}
 use Rattle.typing_rules.specs.declared.prefix.Prefix.{Prefix}
 use Rattle.typing_rules.specs.declared.prefix.Prefix.TheVariants as prefix
 use Rattle.typing_rules.specs.Fits.{found_fault, refused_beside, seen_then}
-use Rattle.typing_rules.specs.Lookups.{Array, array_at, components_at, number_or, scalar_value, seen_as, type_of}
+use Rattle.typing_rules.specs.Lookups.{Array, array_at, components_at, scalar_value, seen_as, type_of}
 use Rattle.typing_rules.specs.Parts.{Operand}
 
 -- ---- what a name stands for

@@ -1,23 +1,17 @@
-use Rattle.std.proofs.Common.{refl}
-use Rattle.typed_units.specs.declared.expressions.Expr as typed
+use Rattle.typing_rules.proofs.Opened.{node_made, subtype_made}
 use Rattle.typing_rules.proofs.laws.calls.Goals as goal
 
 pub returns-clause-function : goal.returns-clause-function
-unfolding typed.out-Expr typed.roll-Expr
-returns-clause-function c = refl
+returns-clause-function c = simp (subtype_made, node_made)
 
 pub returns-clause-named_argument : goal.returns-clause-named_argument
-unfolding typed.out-Expr typed.roll-Expr
-returns-clause-named_argument c = refl
+returns-clause-named_argument c = simp (subtype_made, node_made)
 
 pub returns-clause-item_of_its_value : goal.returns-clause-item_of_its_value
-unfolding typed.out-Expr typed.roll-Expr
-returns-clause-item_of_its_value c = refl
+returns-clause-item_of_its_value c = simp (subtype_made, node_made)
 
 pub returns-clause-procedure : goal.returns-clause-procedure
-unfolding typed.out-Expr typed.roll-Expr
-returns-clause-procedure c = refl
+returns-clause-procedure c = simp (subtype_made, node_made)
 
 pub returns-clause-checked_on_the_way_in : goal.returns-clause-checked_on_the_way_in
-unfolding typed.out-Expr typed.roll-Expr
-returns-clause-checked_on_the_way_in c = refl
+returns-clause-checked_on_the_way_in c = simp (subtype_made, node_made)
