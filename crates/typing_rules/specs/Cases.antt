@@ -19,6 +19,7 @@ use Rattle.typed_units.specs.declared.expressions.Expr.{Expr, roll-Expr}
 use Rattle.typed_units.specs.declared.expressions.ExprNode.{ExprNode}
 use Rattle.typed_units.specs.declared.expressions.ExprNode.TheVariants as node
 use Rattle.typed_units.specs.declared.operators.Bounds.{Bounds}
+use Rattle.typed_units.specs.declared.operators.Counted.{Counted}
 use Rattle.typed_units.specs.declared.operators.Object.TheVariants as object
 use Rattle.typed_units.specs.declared.programs.Mode.TheVariants as mode
 use Rattle.type_base.specs.Scope.{Scope}
@@ -256,8 +257,8 @@ abbrev pub natural_bounds : Bounds
 natural_bounds = from_to 0 2147483647
 
 -- an index by its number, and its subtype
-abbrev pub counted : ℕ → ℕ → ℕ
-counted n k = n
+abbrev pub counted : ℕ → ℕ → Counted
+counted n k = record { number = n; subtype = k }
 
 abbrev pub refusal : Code → ℕ → Refusal
 refusal r at = record { code = r; place = place at }

@@ -184,7 +184,7 @@ counting b x = record { range = b; predicate = x }
 abbrev pub quantified_by : Scope → Place → Quantifier → ℕ → Found Between → Found Expr → Seen
 quantified_by c p q n r x =
     seen_then (both counting r x)
-    (λ z. truth_at p (node.Quantified (quantifier_of q) n z.range.low z.range.high z.predicate))
+    (λ z. truth_at p (node.Quantified (quantifier_of q) (record { number = n; subtype = z.range.subtype }) z.range.low z.range.high z.predicate))
 
 -- L23: over an integer or enumeration type, and of a Boolean predicate; where nothing is known of the range, neither is of the index
 abbrev pub quantified_seen : Scope → Place → Quantifier → ℕ → Range → (ℕ → Operand) → Seen
