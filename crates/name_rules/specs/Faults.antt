@@ -1,5 +1,5 @@
 -- All broken rules of names of a program, one line a demand, and its answer: the first of them, or all links.
-use Rattle.std.specs.Prelude.{◌≡◌, ℕ, Bool, true, false, not, ◌&&◌, ◌||◌, ◌==◌, ◌-◌, ◌++◌, ◌⊎◌, nat_lt, List, [], ◌∷◌, reverse, slice_get, Option, Some, None, is_some, unwrap_or, if◌then◌else◌}
+use Rattle.std.specs.Prelude.{◌≡◌, ℕ, Bool, true, false, not, ◌&&◌, ◌||◌, ◌==◌, ◌-◌, ◌++◌, ◌⊎◌, nat_lt, List, [], ◌∷◌, slice_get, Option, Some, None, is_some, unwrap_or, if◌then◌else◌}
 use Rattle.name_library.specs.declared.events.Event.{Event}
 use Rattle.name_library.specs.declared.events.Ident.{Ident}
 use Rattle.name_library.specs.declared.links.Fault.{Fault}
@@ -12,8 +12,15 @@ use Rattle.name_library.specs.declared.library.Part.TheVariants as part
 use Rattle.name_library.specs.declared.library.Part.{Part}
 use Rattle.name_library.specs.Library.{goes_with, library, spot_of, unit_as}
 use Rattle.name_library.specs.Chains.{leads_back, own_declaration}
-use Rattle.name_scopes.specs.Scopes.{Entry, Frame, Sort, subprogram, State, standard_names}
-use Rattle.name_scopes.specs.Steps.{Around, after, carried, start}
+use Rattle.name_scopes.specs.declared.entries.Entry.{Entry}
+use Rattle.name_scopes.specs.declared.entries.Sort.{Sort}
+use Rattle.name_scopes.specs.declared.entries.Sort.TheVariants as sort
+use Rattle.name_scopes.specs.declared.state.Scopes.{Scopes}
+use Rattle.name_rules.specs.declared.program.Answer.{Answer}
+use Rattle.name_rules.specs.declared.program.Answer.TheVariants as verdict
+use Rattle.name_scopes.specs.Scopes.{standard_names}
+use Rattle.name_scopes.specs.State.{carried, start}
+use Rattle.name_scopes.specs.Steps.{after}
 
 abbrev fault : NameFault → Spot → Fault
 fault r p = record { rule = r; spot = p }
@@ -71,16 +78,12 @@ all_units l (u ∷ us) = unit_faults l u ++ all_units l us
 
 -- ---- demands where a file ends
 
-abbrev top_entries : List Frame → List Entry
-top_entries [] = []
-top_entries (f ∷ fs) = f.entries
-
-abbrev lacks_body : Sort → Bool
-lacks_body (subprogram false p) = true
+abbrev pub lacks_body : Sort → Bool
+lacks_body (sort.Subprogram false k) = true
 lacks_body _ = false
 
-abbrev is_subprogram : Sort → Bool
-is_subprogram (subprogram b p) = true
+abbrev pub is_subprogram : Sort → Bool
+is_subprogram (sort.Subprogram b k) = true
 is_subprogram _ = false
 
 -- each subprogram that is declared in a package has a body in the package's body
@@ -88,53 +91,46 @@ abbrev pub bodies : List Entry → List Fault
 bodies [] = []
 bodies (e ∷ es) = unless (not (lacks_body e.sort)) rule.MissingBody e.spot ++ bodies es
 
-abbrev has_subprogram : List Entry → Bool
+abbrev pub has_subprogram : List Entry → Bool
 has_subprogram [] = false
 has_subprogram (e ∷ es) = is_subprogram e.sort || has_subprogram es
-
-abbrev around : List LibraryUnit → ℕ → Around
-around l file = record { file = file; units = l }
 
 abbrev pub events_of : List (List Event) → ℕ → List Event
 events_of files n = unwrap_or (slice_get files n) []
 
 -- what stands at the end of the declaration of a unit
-abbrev declared_state : List (List Event) → List LibraryUnit → LibraryUnit → State
-declared_state files l u = after (around l u.spot.file) start (events_of files u.spot.file)
+abbrev pub declared_state : List (List Event) → List LibraryUnit → LibraryUnit → Scopes
+declared_state files l u = after l (start u.spot.file) (events_of files u.spot.file)
 
-abbrev carried_state : List (List Event) → List LibraryUnit → Option LibraryUnit → State
-carried_state files l None = start
-carried_state files l (Some u) = carried (declared_state files l u)
+abbrev pub carried_state : List (List Event) → List LibraryUnit → ℕ → Option LibraryUnit → Scopes
+carried_state files l file None = start file
+carried_state files l file (Some u) = carried file (declared_state files l u)
 
 -- what a unit begins with: a body goes on where its declaration ends
-abbrev pub opening : List (List Event) → List LibraryUnit → LibraryUnit → State
-opening files l u = carried_state files l (own_declaration l u.name u.part)
+abbrev pub opening : List (List Event) → List LibraryUnit → LibraryUnit → Scopes
+opening files l u = carried_state files l u.spot.file (own_declaration l u.name u.part)
 
-abbrev pub state_of : List (List Event) → List LibraryUnit → LibraryUnit → State
-state_of files l u = after (around l u.spot.file) (opening files l u) (events_of files u.spot.file)
+abbrev pub state_of : List (List Event) → List LibraryUnit → LibraryUnit → Scopes
+state_of files l u = after l (opening files l u) (events_of files u.spot.file)
 
 -- a package without its body declares no subprogram
-abbrev without_body : LibraryUnit → List Entry → Option LibraryUnit → List Fault
-without_body u es (Some v) = []
-without_body u es None = unless (not (has_subprogram es)) rule.MissingBody u.spot ++ bodies es
+abbrev pub without_body : LibraryUnit → List Entry → Bool → List Fault
+without_body u es true = []
+without_body u es false = unless (not (has_subprogram es)) rule.MissingBody u.spot ++ bodies es
 
--- a package that declares no subprogram has no body (Ada RM 7.2)
-abbrev wanted_body : LibraryUnit → List Entry → Option LibraryUnit → List Fault
-wanted_body u es None = []
-wanted_body u es (Some v) = unless (has_subprogram es) rule.SpecMismatch u.spot
+-- where a file ends, by the declarations that its unit begins with and those that it ends with; a package that declares no subprogram
+-- has no body (Ada RM 7.2)
+abbrev pub end_faults : List LibraryUnit → LibraryUnit → List Entry → List Entry → Part → List Fault
+end_faults l u before es part.PackageDeclaration = without_body u es (is_some (unit_as part.PackageBody u.name l))
+end_faults l u before es part.PackageBody = unless (not (is_some (unit_as part.PackageDeclaration u.name l)) || has_subprogram before) rule.SpecMismatch u.spot ++ bodies es
+end_faults l u before es _ = []
 
-abbrev end_faults : List (List Event) → List LibraryUnit → LibraryUnit → Part → State → List Fault
-end_faults files l u part.PackageDeclaration s = without_body u (top_entries s.frames) (unit_as part.PackageBody u.name l)
-end_faults files l u part.PackageBody s =
-    wanted_body u (top_entries (opening files l u).frames) (unit_as part.PackageDeclaration u.name l) ++ bodies (top_entries s.frames)
-end_faults files l u _ s = []
+abbrev pub file_faults : List (List Event) → List LibraryUnit → LibraryUnit → List Fault
+file_faults files l u = (state_of files l u).findings.faults ++ end_faults l u (opening files l u).top.entries (state_of files l u).top.entries u.part
 
-abbrev file_faults : List (List Event) → List LibraryUnit → LibraryUnit → State → List Fault
-file_faults files l u s = s.faults ++ end_faults files l u u.part s
-
-abbrev all_files : List (List Event) → List LibraryUnit → List LibraryUnit → List Fault
+abbrev pub all_files : List (List Event) → List LibraryUnit → List LibraryUnit → List Fault
 all_files files l [] = []
-all_files files l (u ∷ us) = file_faults files l u (state_of files l u) ++ all_files files l us
+all_files files l (u ∷ us) = file_faults files l u ++ all_files files l us
 
 -- all broken rules
 abbrev pub faults : List (List Event) → List Fault
@@ -184,21 +180,18 @@ IsFirst (Some f) fs = IsIn f fs × NoneBefore f fs
 
 -- ---- the answer
 
-abbrev all_usages : List (List Event) → List LibraryUnit → List LibraryUnit → List Usage
+abbrev pub all_usages : List (List Event) → List LibraryUnit → List LibraryUnit → List Usage
 all_usages files l [] = []
-all_usages files l (u ∷ us) = reverse (state_of files l u).usages ++ all_usages files l us
+all_usages files l (u ∷ us) = (state_of files l u).findings.usages ++ all_usages files l us
 
 -- what each identifier stands for, in the order of files and of the text
 abbrev pub usages : List (List Event) → List Usage
 usages files = all_usages files (library files) (library files)
 
-pub data Answer : Type 0 where
-  refused : Fault → Answer
-  named : List Usage → Answer
-
-abbrev answered : List (List Event) → Option Fault → Answer
-answered files (Some f) = refused f
-answered files None = named (usages files)
+-- the first fault, or without one the usages
+abbrev pub told : Option Fault → List Usage → Answer
+told (Some f) us = verdict.Refused f
+told None us = verdict.Named us
 
 abbrev pub answer : List (List Event) → Answer
-answer files = answered files (first_of (faults files))
+answer files = told (first_of (faults files)) (usages files)
