@@ -118,15 +118,16 @@ abbrev pub without_body : LibraryUnit → List Entry → Bool → List Fault
 without_body u es true = []
 without_body u es false = unless (not (has_subprogram es)) rule.MissingBody u.spot ++ bodies es
 
--- where a file ends, by the declarations that its unit begins with and those that it ends with; a package that declares no subprogram
--- has no body (Ada RM 7.2)
-abbrev pub end_faults : List LibraryUnit → LibraryUnit → List Entry → List Entry → Part → List Fault
-end_faults l u before es part.PackageDeclaration = without_body u es (is_some (unit_as part.PackageBody u.name l))
-end_faults l u before es part.PackageBody = unless (not (is_some (unit_as part.PackageDeclaration u.name l)) || has_subprogram before) rule.SpecMismatch u.spot ++ bodies es
-end_faults l u before es _ = []
+-- where a file ends, by whether its unit begins with a subprogram, and by the declarations at its end; a package that declares no
+-- subprogram has no body (Ada RM 7.2)
+abbrev pub end_faults : List LibraryUnit → LibraryUnit → Bool → List Entry → Part → List Fault
+end_faults l u had es part.PackageDeclaration = without_body u es (is_some (unit_as part.PackageBody u.name l))
+end_faults l u had es part.PackageBody = unless (not (is_some (unit_as part.PackageDeclaration u.name l)) || had) rule.SpecMismatch u.spot ++ bodies es
+end_faults l u had es _ = []
 
 abbrev pub file_faults : List (List Event) → List LibraryUnit → LibraryUnit → List Fault
-file_faults files l u = (state_of files l u).findings.faults ++ end_faults l u (opening files l u).top.entries (state_of files l u).top.entries u.part
+file_faults files l u =
+    (state_of files l u).findings.faults ++ end_faults l u (has_subprogram (opening files l u).top.entries) (state_of files l u).top.entries u.part
 
 abbrev pub all_files : List (List Event) → List LibraryUnit → List LibraryUnit → List Fault
 all_files files l [] = []

@@ -78,7 +78,7 @@ fn put_end_faults(
     had_subprogram: bool,
     entries: &[Entry],
 ) -> Result<(), Starved>
-    ensures { (before : List Entry) → had_subprogram ≡ has_subprogram before → OnOk result (faults.new ≡ faults.old ++ end_faults library.now unit.now before entries.now unit.now.part) }
+    ensures { OnOk result (faults.new ≡ faults.old ++ end_faults library.now unit.now had_subprogram entries.now unit.now.part) }
 {
     match unit.part {
         Part::PackageDeclaration => {
