@@ -12,13 +12,13 @@ use Rattle.name_library.specs.declared.library.Part.TheVariants as part
 use Rattle.name_library.specs.declared.library.Part.{Part}
 use Rattle.name_library.specs.Library.{goes_with, library, spot_of, unit_as}
 use Rattle.name_library.specs.Chains.{leads_back, own_declaration}
-use Rattle.name_scopes.specs.declared.entries.Entry.{Entry}
-use Rattle.name_scopes.specs.declared.entries.Sort.{Sort}
-use Rattle.name_scopes.specs.declared.entries.Sort.TheVariants as sort
+use Rattle.name_frames.specs.declared.entries.Entry.{Entry}
+use Rattle.name_frames.specs.declared.entries.Sort.{Sort}
+use Rattle.name_frames.specs.declared.entries.Sort.TheVariants as sort
 use Rattle.name_scopes.specs.declared.state.Scopes.{Scopes}
 use Rattle.name_rules.specs.declared.program.Answer.{Answer}
 use Rattle.name_rules.specs.declared.program.Answer.TheVariants as verdict
-use Rattle.name_scopes.specs.Scopes.{standard_names}
+use Rattle.name_frames.specs.Meaning.{standard_names}
 use Rattle.name_scopes.specs.State.{carried, start}
 use Rattle.name_scopes.specs.Steps.{after}
 

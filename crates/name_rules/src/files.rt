@@ -8,7 +8,8 @@ use crate::demands::unless;
 use name_library::{
     Event, Fault, Library, LibraryUnit, NameFault, Part, Starved, Usage, own_declaration,
 };
-use name_scopes::{Entry, Scopes, Sort};
+use name_frames::{Entry, Sort};
+use name_scopes::Scopes;
 use sqlite_items::{Items, at};
 use std::alloc::Global;
 

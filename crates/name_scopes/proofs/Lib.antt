@@ -1,3 +1,3 @@
+mod Latest
 mod Meanings
-mod Only
-mod Places
+mod Opened

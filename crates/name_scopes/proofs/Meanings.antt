@@ -10,12 +10,12 @@ use Rattle.name_library.specs.declared.links.Link.TheVariants.{Declared, Predefi
 use Rattle.name_library.specs.declared.links.NameFault.TheVariants as rule
 use Rattle.name_library.specs.declared.library.LibraryUnit.{LibraryUnit}
 use Rattle.name_library.specs.Library.{contains, declaration_of}
-use Rattle.name_scopes.specs.declared.frames.Sight.{Sight}
-use Rattle.name_scopes.specs.declared.meaning.Found.{Found}
-use Rattle.name_scopes.specs.declared.meaning.Found.TheVariants.{One, Missing, Several}
+use Rattle.name_frames.specs.declared.frames.Sight.{Sight}
+use Rattle.name_frames.specs.declared.meaning.Found.{Found}
+use Rattle.name_frames.specs.declared.meaning.Found.TheVariants.{One, Missing, Several}
 use Rattle.name_scopes.specs.declared.state.Scopes.{Scopes}
-use Rattle.name_scopes.specs.Frames.{innermost}
-use Rattle.name_scopes.specs.Scopes.{all_same, by_scopes, by_sight, offered, only, profile_names, standard_names, with_link}
+use Rattle.name_frames.specs.Frames.{innermost}
+use Rattle.name_frames.specs.Meaning.{all_same, by_scopes, by_sight, offered, only, profile_names, standard_names, with_link}
 use Rattle.name_scopes.specs.State.{frames, spot_in}
 use Rattle.name_scopes.specs.Steps.{meaning, named, step}
 use Rattle.name_scopes.specs.Visible.{IsForUse}

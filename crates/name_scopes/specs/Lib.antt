@@ -1,8 +1,4 @@
-pub mod Entries
-pub mod Profiles
-pub mod Frames
-pub mod Scopes
-pub mod Joined
+pub mod Open
 pub mod State
 pub mod Steps
 pub mod Visible

@@ -5,12 +5,12 @@ use Rattle.name_library.specs.declared.links.Link.{Link}
 use Rattle.name_library.specs.declared.links.NameFault.{NameFault}
 use Rattle.name_library.specs.declared.links.Spot.{Spot}
 use Rattle.name_library.specs.Library.{contains}
-use Rattle.name_scopes.specs.declared.frames.Frame.{Frame}
-use Rattle.name_scopes.specs.declared.frames.Owner.{Owner}
-use Rattle.name_scopes.specs.declared.frames.Owner.TheVariants as owner
+use Rattle.name_frames.specs.declared.frames.Frame.{Frame}
+use Rattle.name_frames.specs.declared.frames.Owner.{Owner}
+use Rattle.name_frames.specs.declared.frames.Owner.TheVariants as owner
 use Rattle.name_scopes.specs.declared.state.Findings.{Findings}
 use Rattle.name_scopes.specs.declared.state.Scopes.{Scopes}
-use Rattle.name_scopes.specs.Frames.{new_frame}
+use Rattle.name_frames.specs.Frames.{new_frame}
 
 -- ---- what is found
 

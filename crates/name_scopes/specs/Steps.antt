@@ -18,24 +18,24 @@ use Rattle.name_library.specs.declared.links.NameFault.{NameFault}
 use Rattle.name_library.specs.declared.links.NameFault.TheVariants.{UnknownName, AmbiguousName, Duplicate, Overloaded, SpecMismatch, LeftOut}
 use Rattle.name_library.specs.declared.links.Spot.{Spot}
 use Rattle.name_library.specs.Library.{contains, declaration_of, is_part, package_at}
-use Rattle.name_scopes.specs.declared.entries.Entry.{Entry}
-use Rattle.name_scopes.specs.declared.entries.Sort.{Sort}
-use Rattle.name_scopes.specs.declared.entries.Sort.TheVariants as sort
-use Rattle.name_scopes.specs.declared.frames.Frame.{Frame}
-use Rattle.name_scopes.specs.declared.frames.Owner.{Owner}
-use Rattle.name_scopes.specs.declared.frames.Owner.TheVariants as owner
-use Rattle.name_scopes.specs.declared.frames.Sight.{Sight}
-use Rattle.name_scopes.specs.declared.meaning.Found.{Found}
-use Rattle.name_scopes.specs.declared.meaning.Found.TheVariants.{One, Missing, Several}
-use Rattle.name_scopes.specs.declared.profiles.Formal.{Formal}
-use Rattle.name_scopes.specs.declared.profiles.Outcome.TheVariants as outcome
-use Rattle.name_scopes.specs.declared.profiles.Profile.{Profile}
+use Rattle.name_frames.specs.declared.entries.Entry.{Entry}
+use Rattle.name_frames.specs.declared.entries.Sort.{Sort}
+use Rattle.name_frames.specs.declared.entries.Sort.TheVariants as sort
+use Rattle.name_frames.specs.declared.frames.Frame.{Frame}
+use Rattle.name_frames.specs.declared.frames.Owner.{Owner}
+use Rattle.name_frames.specs.declared.frames.Owner.TheVariants as owner
+use Rattle.name_frames.specs.declared.frames.Sight.{Sight}
+use Rattle.name_frames.specs.declared.meaning.Found.{Found}
+use Rattle.name_frames.specs.declared.meaning.Found.TheVariants.{One, Missing, Several}
+use Rattle.name_frames.specs.declared.profiles.Formal.{Formal}
+use Rattle.name_frames.specs.declared.profiles.Outcome.TheVariants as outcome
+use Rattle.name_frames.specs.declared.profiles.Profile.{Profile}
 use Rattle.name_scopes.specs.declared.state.Late.{Late}
 use Rattle.name_scopes.specs.declared.state.Scopes.{Scopes}
-use Rattle.name_scopes.specs.Entries.{entry_of, with_body}
-use Rattle.name_scopes.specs.Frames.{innermost, named_as, package_named}
-use Rattle.name_scopes.specs.Profiles.{no_profile, same_link, same_profile, told}
-use Rattle.name_scopes.specs.Scopes.{by_scopes, member}
+use Rattle.name_frames.specs.Entries.{entry_of, with_body}
+use Rattle.name_frames.specs.Frames.{innermost, named_as, package_named}
+use Rattle.name_frames.specs.Profiles.{no_profile, same_link, same_profile, told}
+use Rattle.name_frames.specs.Meaning.{by_scopes, member}
 use Rattle.name_scopes.specs.State.{all_ended, broken, closed, frames, linked, pushed, spot_in, with_name}
 
 -- what a name stands for

@@ -5,8 +5,8 @@ ghost use Rattle.std.specs.Option.{option_copied};
 ghost use Rattle.name_library.specs.Library.{declaration_of};
 ghost use Rattle.name_scopes.specs.Steps.{context_package, declared_package, in_use, is_inside, package_of, use_made, used, with_added, withed};
 
-use crate::meaning::{Found, contains};
 use crate::state::{Scopes, add_name};
+use name_frames::{Found, contains};
 use name_library::{Ident, Library, LibraryUnit, Link, NameFault, Part};
 use std::alloc::AllocError;
 

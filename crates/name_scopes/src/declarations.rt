@@ -2,13 +2,12 @@
 
 ghost use Rattle.std.specs.Prelude.{◌≡◌, OnOk, None};
 ghost use Rattle.std.specs.Option.{option_copied};
-ghost use Rattle.name_scopes.specs.Entries.{entry_of};
+ghost use Rattle.name_frames.specs.Entries.{entry_of};
 ghost use Rattle.name_scopes.specs.State.{spot_in};
 ghost use Rattle.name_scopes.specs.Steps.{begun, clash, declares, enter, first_formal, parameter, parameters_end, result_ends, same_named, with_entry};
 
-use crate::entries::{Entry, Sort};
-use crate::profiles::{Begun, Formal, Outcome, tell};
 use crate::state::Scopes;
+use name_frames::{Begun, Entry, Formal, Outcome, Sort, tell};
 use name_library::{Ident, Kind, Link, Mode, NameFault, Spot};
 use sqlite_items::Items;
 use std::alloc::{AllocError, Global};

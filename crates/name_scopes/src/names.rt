@@ -2,14 +2,13 @@
 
 ghost use Rattle.std.specs.Prelude.{◌≡◌, OnOk};
 ghost use Rattle.std.specs.Option.{option_copied};
-ghost use Rattle.name_scopes.specs.Frames.{enclosing, innermost, seen_in};
-ghost use Rattle.name_scopes.specs.Scopes.{by_prefix, by_seen, member};
+ghost use Rattle.name_frames.specs.Frames.{enclosing, innermost, seen_in};
+ghost use Rattle.name_frames.specs.Meaning.{by_prefix, by_seen, member};
 ghost use Rattle.name_scopes.specs.State.{frames};
 ghost use Rattle.name_scopes.specs.Steps.{is_local_sight, meaning, named, noted, selected, unresolved};
 
-use crate::frames::{Frame, Sight, owns};
-use crate::meaning::{Found, by_package, by_scopes, by_sight};
 use crate::state::{Late, Scopes};
+use name_frames::{Found, Frame, Sight, by_package, by_scopes, by_sight, owns};
 use name_library::{Ident, Library, Link, Manner, NameFault, Spot};
 use std::alloc::AllocError;
 

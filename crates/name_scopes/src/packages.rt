@@ -3,9 +3,8 @@
 ghost use Rattle.std.specs.Prelude.{◌≡◌, OnOk};
 ghost use Rattle.name_scopes.specs.Steps.{body_opens, end_name, opens, package_opens};
 
-use crate::entries::Sort;
-use crate::frames::{Owner, package_named};
 use crate::state::Scopes;
+use name_frames::{Owner, Sort, package_named};
 use name_library::{Ident, Link, NameFault, Scope, Spot};
 use std::alloc::{AllocError, Global};
 

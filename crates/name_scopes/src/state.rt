@@ -3,9 +3,7 @@
 ghost use Rattle.std.specs.Prelude.{◌≡◌, ◌++◌, ◌∷◌, [], OnOk, IfOk, None};
 ghost use Rattle.name_scopes.specs.State.{all_ended, broken, carried, closed, fault_at, link_at, linked, new_findings, pushed, start, with_name};
 
-use crate::frames::{Frame, Frames, Owner};
-use crate::meaning::contains;
-use crate::profiles::Profile;
+use name_frames::{Frame, Frames, Owner, Profile, contains};
 use name_library::{Fault, Link, NameFault, Spot, Usage};
 use sqlite_items::Items;
 use std::alloc::{AllocError, Global};

@@ -4,10 +4,8 @@ ghost use Rattle.std.specs.Prelude.{◌≡◌, OnOk};
 ghost use Rattle.name_scopes.specs.Steps.{after, is_still, late_ones, list_ends, looked_again, step};
 
 use crate::clauses::context_package;
-use crate::frames::named_as;
-use crate::meaning::Found;
-use crate::profiles::same_link;
 use crate::state::{Late, Scopes};
+use name_frames::{Found, named_as, same_link};
 use name_library::{Event, Library, Link, NameFault};
 use sqlite_items::Items;
 use std::alloc::{AllocError, Global};

@@ -1,14 +1,12 @@
 //! Subprograms and their bodies (Ada RM 6.1, 6.3, 6.3.1).
 
 ghost use Rattle.std.specs.Prelude.{◌≡◌, OnOk, None, slice_get};
-ghost use Rattle.name_scopes.specs.Entries.{entry_of};
+ghost use Rattle.name_frames.specs.Entries.{entry_of};
 ghost use Rattle.name_scopes.specs.Steps.{begins, body_for, compared, completes, new_subprogram, profile_ended, profile_given, subprogram_again, subprogram_opens};
 
 use crate::declarations::clash;
-use crate::entries::Sort;
-use crate::frames::Owner;
-use crate::profiles::{Profile, same_profile};
 use crate::state::Scopes;
+use name_frames::{Owner, Profile, Sort, same_profile};
 use name_library::{Ident, Link, NameFault, Spot};
 use std::alloc::{AllocError, Global};
 use std::mem;

@@ -1,0 +1,6 @@
+use Rattle.name_frames.specs.Meaning.{offered}
+use Rattle.name_frames.proofs.Only.{only_joined}
+use Rattle.name_frames.proofs.meaning.by_use.Goals as goal
+
+pub loop-used-init : goal.loop-used-init
+loop-used-init c = only_joined (offered c.args.units.now c.args.name c.args.used.now)

@@ -1,0 +1,5 @@
+pub mod Entries
+pub mod Frames
+pub mod Joined
+pub mod Meaning
+pub mod Profiles
