@@ -1,3 +1,4 @@
 pub mod Walked
 pub mod Sought
 pub mod Marked
+mod Turns

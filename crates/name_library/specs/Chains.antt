@@ -1,5 +1,5 @@
 -- What units depend on (Ada RM 10.1.1), circles, and an order in which each unit comes after what it depends on.
-use Rattle.std.specs.Prelude.{ℕ, Bool, true, false, not, ◌&&◌, ◌==◌, ◌++◌, List, [], ◌∷◌, find, length, Option, Some, None, if◌then◌else◌}
+use Rattle.std.specs.Prelude.{◌≡◌, ℕ, Bool, true, false, not, ◌&&◌, ◌==◌, ◌++◌, List, [], ◌∷◌, Contains, find, length, Option, Some, None, if◌then◌else◌}
 use Rattle.name_library.specs.declared.circles.Dependence.{Dependence}
 use Rattle.name_library.specs.declared.events.Ident.{Ident}
 use Rattle.name_library.specs.declared.library.LibraryUnit.{LibraryUnit}
@@ -98,3 +98,7 @@ turns all (e ∷ es) done = turns all es (next_added done (find (is_next done) a
 -- the files of the units; what is on a circle, or depends on one, is left out
 abbrev pub order : List LibraryUnit → List ℕ
 order l = turns (dependences l) (dependences l) []
+
+-- a file comes after others where it is none of them, and where all that a unit in it depends on is among them
+abbrev pub ComesAfter : List Dependence → List ℕ → ℕ → Type 0
+ComesAfter all done file = (contains file done ≡ false) × ((e : Dependence) × (Contains all e × (e.file ≡ file) × (all_in e.on done ≡ true)))

@@ -3,6 +3,7 @@
 
 mod circles;
 mod events;
+pub mod laws;
 mod library;
 mod links;
 mod lookups;

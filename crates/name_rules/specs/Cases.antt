@@ -10,14 +10,15 @@ use Rattle.name_library.specs.declared.events.Scope.TheVariants as scope
 use Rattle.name_library.specs.declared.links.Link.TheVariants.{Declared, Predefined}
 use Rattle.name_library.specs.declared.links.NameFault.{NameFault}
 use Rattle.name_library.specs.declared.links.Usage.{Usage}
-use Rattle.name_rules.specs.Faults.{Answer, refused}
+use Rattle.name_rules.specs.declared.program.Answer.{Answer}
+use Rattle.name_rules.specs.declared.program.Answer.TheVariants as verdict
 
 abbrev pub id : ℕ → ℕ → Ident
 id n at = record { name = n; at = at }
 
 -- the first fault of a program
 abbrev pub refuses : NameFault → ℕ → ℕ → Answer
-refuses r file at = refused (record { rule = r; spot = record { file = file; at = at } })
+refuses r file at = verdict.Refused (record { rule = r; spot = record { file = file; at = at } })
 
 -- an identifier stands for a declaration
 abbrev pub leads : ℕ → ℕ → ℕ → ℕ → Usage

@@ -16,6 +16,8 @@ use Rattle.name_frames.specs.declared.entries.Entry.{Entry}
 use Rattle.name_frames.specs.declared.entries.Sort.{Sort}
 use Rattle.name_frames.specs.declared.entries.Sort.TheVariants as sort
 use Rattle.name_scopes.specs.declared.state.Scopes.{Scopes}
+use Rattle.name_rules.specs.declared.program.Answer.{Answer}
+use Rattle.name_rules.specs.declared.program.Answer.TheVariants as verdict
 use Rattle.name_frames.specs.Meaning.{standard_names}
 use Rattle.name_scopes.specs.State.{carried, start}
 use Rattle.name_scopes.specs.Steps.{after}
@@ -76,11 +78,11 @@ all_units l (u ∷ us) = unit_faults l u ++ all_units l us
 
 -- ---- demands where a file ends
 
-abbrev lacks_body : Sort → Bool
+abbrev pub lacks_body : Sort → Bool
 lacks_body (sort.Subprogram false k) = true
 lacks_body _ = false
 
-abbrev is_subprogram : Sort → Bool
+abbrev pub is_subprogram : Sort → Bool
 is_subprogram (sort.Subprogram b k) = true
 is_subprogram _ = false
 
@@ -89,7 +91,7 @@ abbrev pub bodies : List Entry → List Fault
 bodies [] = []
 bodies (e ∷ es) = unless (not (lacks_body e.sort)) rule.MissingBody e.spot ++ bodies es
 
-abbrev has_subprogram : List Entry → Bool
+abbrev pub has_subprogram : List Entry → Bool
 has_subprogram [] = false
 has_subprogram (e ∷ es) = is_subprogram e.sort || has_subprogram es
 
@@ -97,10 +99,10 @@ abbrev pub events_of : List (List Event) → ℕ → List Event
 events_of files n = unwrap_or (slice_get files n) []
 
 -- what stands at the end of the declaration of a unit
-abbrev declared_state : List (List Event) → List LibraryUnit → LibraryUnit → Scopes
+abbrev pub declared_state : List (List Event) → List LibraryUnit → LibraryUnit → Scopes
 declared_state files l u = after l (start u.spot.file) (events_of files u.spot.file)
 
-abbrev carried_state : List (List Event) → List LibraryUnit → ℕ → Option LibraryUnit → Scopes
+abbrev pub carried_state : List (List Event) → List LibraryUnit → ℕ → Option LibraryUnit → Scopes
 carried_state files l file None = start file
 carried_state files l file (Some u) = carried file (declared_state files l u)
 
@@ -112,27 +114,24 @@ abbrev pub state_of : List (List Event) → List LibraryUnit → LibraryUnit →
 state_of files l u = after l (opening files l u) (events_of files u.spot.file)
 
 -- a package without its body declares no subprogram
-abbrev without_body : LibraryUnit → List Entry → Option LibraryUnit → List Fault
-without_body u es (Some v) = []
-without_body u es None = unless (not (has_subprogram es)) rule.MissingBody u.spot ++ bodies es
+abbrev pub without_body : LibraryUnit → List Entry → Bool → List Fault
+without_body u es true = []
+without_body u es false = unless (not (has_subprogram es)) rule.MissingBody u.spot ++ bodies es
 
--- a package that declares no subprogram has no body (Ada RM 7.2)
-abbrev wanted_body : LibraryUnit → List Entry → Option LibraryUnit → List Fault
-wanted_body u es None = []
-wanted_body u es (Some v) = unless (has_subprogram es) rule.SpecMismatch u.spot
+-- where a file ends, by whether its unit begins with a subprogram, and by the declarations at its end; a package that declares no
+-- subprogram has no body (Ada RM 7.2)
+abbrev pub end_faults : List LibraryUnit → LibraryUnit → Bool → List Entry → Part → List Fault
+end_faults l u had es part.PackageDeclaration = without_body u es (is_some (unit_as part.PackageBody u.name l))
+end_faults l u had es part.PackageBody = unless (not (is_some (unit_as part.PackageDeclaration u.name l)) || had) rule.SpecMismatch u.spot ++ bodies es
+end_faults l u had es _ = []
 
-abbrev end_faults : List (List Event) → List LibraryUnit → LibraryUnit → Part → Scopes → List Fault
-end_faults files l u part.PackageDeclaration s = without_body u s.top.entries (unit_as part.PackageBody u.name l)
-end_faults files l u part.PackageBody s =
-    wanted_body u (opening files l u).top.entries (unit_as part.PackageDeclaration u.name l) ++ bodies s.top.entries
-end_faults files l u _ s = []
+abbrev pub file_faults : List (List Event) → List LibraryUnit → LibraryUnit → List Fault
+file_faults files l u =
+    (state_of files l u).findings.faults ++ end_faults l u (has_subprogram (opening files l u).top.entries) (state_of files l u).top.entries u.part
 
-abbrev file_faults : List (List Event) → List LibraryUnit → LibraryUnit → Scopes → List Fault
-file_faults files l u s = s.findings.faults ++ end_faults files l u u.part s
-
-abbrev all_files : List (List Event) → List LibraryUnit → List LibraryUnit → List Fault
+abbrev pub all_files : List (List Event) → List LibraryUnit → List LibraryUnit → List Fault
 all_files files l [] = []
-all_files files l (u ∷ us) = file_faults files l u (state_of files l u) ++ all_files files l us
+all_files files l (u ∷ us) = file_faults files l u ++ all_files files l us
 
 -- all broken rules
 abbrev pub faults : List (List Event) → List Fault
@@ -182,7 +181,7 @@ IsFirst (Some f) fs = IsIn f fs × NoneBefore f fs
 
 -- ---- the answer
 
-abbrev all_usages : List (List Event) → List LibraryUnit → List LibraryUnit → List Usage
+abbrev pub all_usages : List (List Event) → List LibraryUnit → List LibraryUnit → List Usage
 all_usages files l [] = []
 all_usages files l (u ∷ us) = (state_of files l u).findings.usages ++ all_usages files l us
 
@@ -190,13 +189,10 @@ all_usages files l (u ∷ us) = (state_of files l u).findings.usages ++ all_usag
 abbrev pub usages : List (List Event) → List Usage
 usages files = all_usages files (library files) (library files)
 
-pub data Answer : Type 0 where
-  refused : Fault → Answer
-  named : List Usage → Answer
-
-abbrev answered : List (List Event) → Option Fault → Answer
-answered files (Some f) = refused f
-answered files None = named (usages files)
+-- the first fault, or without one the usages
+abbrev pub told : Option Fault → List Usage → Answer
+told (Some f) us = verdict.Refused f
+told None us = verdict.Named us
 
 abbrev pub answer : List (List Event) → Answer
-answer files = answered files (first_of (faults files))
+answer files = told (first_of (faults files)) (usages files)

@@ -2,7 +2,11 @@
 #![tactic(auto)]
 
 mod demands;
+mod files;
 mod first;
 pub mod laws;
+mod program;
 
 pub use first::{first_fault, is_before};
+pub use name_library::Starved;
+pub use program::{Answer, answer_of};
