@@ -1,4 +1,6 @@
--- Which checks a typed program has, and where each stands.
+-- Which checks a typed program has, and where each stands. A check that never fails by what is known before a run, the value
+-- of a static expression or the subtype of another, doesn't exist; the typed program tells it at most places: it has no bounds
+-- where there is no range check.
 use Rattle.std.specs.Prelude.{ℕ, zero, suc, Bool, true, false, cond, ℤ, pos, negsuc, List, [], ◌∷◌, ◌++◌, map, Option, None, is_some, not}
 use Rattle.ada_values.specs.declared.place.Place.{Place}
 use Rattle.ada_values.specs.declared.scalars.Op.{Op}
@@ -33,7 +35,7 @@ place_of (text.at p s n) = p
 abbrev pub is_signed : Scalar → Bool
 is_signed s = not (is_some s.modulus)
 
--- the result may lie outside the base range, though the operation has one: a quotient does where the divisor is -1
+-- the result may lie outside the base range; a quotient does where the divisor is -1 (Ada RM 4.5.3 to 4.5.6)
 abbrev pub may_overflow : Op → Option ℤ → Bool
 may_overflow op.Add b = true
 may_overflow op.Sub b = true
@@ -48,7 +50,8 @@ may_overflow op.Abs b = true
 abbrev pub overflow_check : Op → Scalar → Option ℤ → Place → List SiteKey
 overflow_check o s b p = cond (is_signed s) (site_if (may_overflow o b) p kind.Overflow) []
 
--- the check of the right operand: a divisor's at the operator, an exponent's at the exponent
+-- the check of the right operand: a divisor isn't 0, at the operator (Ada RM 4.5.5); an exponent is a number of Natural, at the
+-- exponent (Ada RM 4.5.6)
 abbrev pub right_check : List Shape → Op → Place → Ex → List SiteKey
 right_check shapes op.Quo p b = site_if (not (is_other (static_number b) (pos 0))) p kind.Division
 right_check shapes op.Rem p b = site_if (not (is_other (static_number b) (pos 0))) p kind.Division
@@ -61,6 +64,8 @@ right_check shapes _ p b = []
 abbrev pub fit_check : Fit → Place → List SiteKey
 fit_check fit p = site_if (is_some fit) p kind.Range
 
+-- `'Length`, `'Succ` and `'Pred` are checked at the tick (Ada RM 3.5, 3.6.2), the operand of a conversion, a qualification or
+-- `'Val` at its first token (Ada RM 3.5.5, 4.6, 4.7)
 abbrev pub op1_checks : Op1 → Ex → List SiteKey
 op1_checks (text.length_at p s) a = site p kind.Range ∷ []
 op1_checks (text.succ_at p s) a = site p kind.Range ∷ []
@@ -69,6 +74,7 @@ op1_checks (text.unary o s p) a = overflow_check o s None p
 op1_checks (text.convert fit) a = fit_check fit (place_of a)
 op1_checks _ a = []
 
+-- an index is checked at its first token (Ada RM 4.1.1)
 abbrev pub op2_checks : List Shape → Op2 → Ex → Ex → List SiteKey
 op2_checks shapes (text.binary o s p) a b = overflow_check o s (static_number b) p ++ right_check shapes o p b
 op2_checks shapes (text.item is_checked) a i = site_if is_checked (place_of i) kind.Index
@@ -80,6 +86,7 @@ has_pre [] q = false
 has_pre (r ∷ rs) zero = is_some r.pre
 has_pre (r ∷ rs) (suc q) = has_pre rs q
 
+-- a call is checked against its precondition (Ada RM 6.1.1)
 abbrev pub form_checks : Text → Nd → List SiteKey
 form_checks t (text.op1 o a) = op1_checks o a
 form_checks t (text.op2 o a b) = op2_checks t.shapes o a b
@@ -91,6 +98,8 @@ expression_checks t (text.at p s n) = form_checks t n
 
 -- ---- statements, actuals, pragmas
 
+-- a value that is assigned or returned is checked at its first token (Ada RM 5.2, 6.5), and pragmas at their conditions (Ada
+-- RM 11.4.2, SPARK RM 5.9)
 abbrev pub action_checks : Text → Place → Ac → List SiteKey
 action_checks t p (text.assign to fit e) = fit_check fit (place_of e)
 action_checks t p (text.give fit e) = fit_check fit (place_of e)
@@ -105,27 +114,30 @@ statement_checks t (text.st p a) = action_checks t p a
 abbrev pub target_place : text.Target → Place
 target_place (text.target p v path) = p
 
--- in both directions
+-- a value that is passed is checked at the actual's first token, in both directions (Ada RM 6.4.1)
 abbrev pub actual_checks : text.Actual → List SiteKey
 actual_checks (text.pass_in k fit e) = fit_check fit (place_of e)
 actual_checks (text.pass_out k to back) = fit_check back (target_place to)
 actual_checks (text.pass_in_out k to fit back) = fit_check fit (target_place to) ++ fit_check back (target_place to)
 
--- at the first expression
+-- a loop variant is checked at its first expression (SPARK RM 5.5.3)
 abbrev pub variant_checks : List text.Way → List SiteKey
 variant_checks [] = []
 variant_checks (w ∷ ws) = site (place_of w.value) kind.Variant ∷ []
 
+-- a loop invariant is checked in the first turn, and kept from then on (SPARK RM 5.5.3)
 abbrev pub demand_checks : text.Demand → List SiteKey
 demand_checks (text.invariant e) = site (place_of e) kind.InvFirst ∷ site (place_of e) kind.InvKept ∷ []
 demand_checks (text.variant ws) = variant_checks ws
 
+-- the value of an association is checked for each component, which is one check (Ada RM 4.3)
 abbrev pub each_checks : List Bounds → Place → List SiteKey
 each_checks [] p = []
 each_checks (b ∷ bs) p = site p kind.Range ∷ []
 
 -- ---- nodes
 
+-- a postcondition is checked at its first token (Ada RM 6.1.1); a precondition is checked where it is called
 abbrev pub node_checks : Text → Node → List SiteKey
 node_checks t (node.subprogram k) = []
 node_checks t (node.pre e) = []
