@@ -1,5 +1,6 @@
 -- The units of a program, what a package exports, and circles of with clauses (Ada RM 10.1).
-use Rattle.std.specs.Prelude.{ℕ, zero, suc, ◌+◌, ◌-◌, Bool, true, false, ◌&&◌, ◌||◌, ◌==◌, ◌++◌, List, [], ◌∷◌, find, Option, Some, None, if◌then◌else◌}
+use Rattle.std.specs.Prelude.{ℕ, zero, suc, ◌+◌, ◌-◌, Bool, true, false, ◌&&◌, ◌||◌, ◌==◌, ◌++◌, List, [], ◌∷◌, find, slice_get, Option, Some, None, if◌then◌else◌}
+use Rattle.std.specs.Option.{option_to_list}
 use Rattle.name_library.specs.declared.events.Event.{Event}
 use Rattle.name_library.specs.declared.events.Event.TheVariants as event
 use Rattle.name_library.specs.declared.events.Ident.{Ident}
@@ -77,19 +78,19 @@ unit_after file ws (event.With i ∷ es) = unit_after file (ws ++ i ∷ []) es
 unit_after file ws (event.Opens s ∷ es) = unit_opened file s ws (opened_ident s) es
 unit_after file ws (_ ∷ es) = unit_after file ws es
 
-abbrev pub added : Option LibraryUnit → List LibraryUnit → List LibraryUnit
-added None us = us
-added (Some u) us = u ∷ us
-
 -- the units of files that are numbered from `file` on
 abbrev pub units_from : ℕ → List (List Event) → List LibraryUnit
 units_from file [] = []
-units_from file (es ∷ ess) = added (unit_after file [] es) (units_from (suc file) ess)
+units_from file (es ∷ ess) = option_to_list (unit_after file [] es) ++ units_from (suc file) ess
 
 abbrev pub library : List (List Event) → List LibraryUnit
 library = units_from 0
 
--- ---- looking units up
+-- ---- looking exports and units up
+
+-- what a package exports under a name
+abbrev pub export_named : ℕ → List Export → Option Export
+export_named n = find (λ e. e.name == n)
 
 abbrev pub is_part : Part → Part → Bool
 is_part part.PackageDeclaration part.PackageDeclaration = true
@@ -104,6 +105,11 @@ unit_as p n = find (λ u. is_part p u.part && (u.name == n))
 abbrev pub else_unit : Option LibraryUnit → Option LibraryUnit → Option LibraryUnit
 else_unit (Some u) v = Some u
 else_unit None v = v
+
+-- a unit by its number, if it has one
+abbrev pub unit_at : List LibraryUnit → Option ℕ → Option LibraryUnit
+unit_at l None = None
+unit_at l (Some k) = slice_get l k
 
 -- what a with clause names: a body of a subprogram stands for its own declaration where there is no other (Ada RM 10.1.4)
 abbrev pub declaration_of : List LibraryUnit → ℕ → Option LibraryUnit
@@ -120,33 +126,6 @@ goes_with part.SubprogramDeclaration part.SubprogramBody = true
 goes_with part.SubprogramBody part.SubprogramDeclaration = true
 goes_with _ _ = false
 
--- ---- circles (Ada RM 10.1.2): files are marked from which a chain of with clauses leads on
-
 abbrev pub contains : ℕ → List ℕ → Bool
 contains n [] = false
 contains n (m ∷ ms) = (n == m) || contains n ms
-
-abbrev file_named : Option LibraryUnit → List ℕ
-file_named None = []
-file_named (Some u) = u.spot.file ∷ []
-
--- the files that hold the declarations of what a unit withs
-abbrev pub leads_to : List LibraryUnit → List Ident → List ℕ
-leads_to l [] = []
-leads_to l (i ∷ more) = file_named (declaration_of l i.name) ++ leads_to l more
-
-abbrev merged : List ℕ → List ℕ → List ℕ
-merged ns [] = ns
-merged ns (m ∷ ms) = if contains m ns then merged ns ms else merged (ns ++ m ∷ []) ms
-
-abbrev onwards : List LibraryUnit → List LibraryUnit → List ℕ → List ℕ
-onwards l [] ns = ns
-onwards l (u ∷ us) ns = if contains u.spot.file ns then onwards l us (merged ns (leads_to l u.withs)) else onwards l us ns
-
-abbrev rounds : List LibraryUnit → List LibraryUnit → List ℕ → List ℕ
-rounds l [] ns = ns
-rounds l (u ∷ us) ns = rounds l us (onwards l l ns)
-
--- a chain of with clauses leads from the files to the other
-abbrev pub leads_back : List LibraryUnit → List ℕ → ℕ → Bool
-leads_back l ns file = contains file (rounds l l ns)

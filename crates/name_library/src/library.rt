@@ -1,12 +1,17 @@
 //! The units of a program, and what a package exports.
 
-ghost use Rattle.std.specs.Prelude.{◌≡◌, [], ◌++◌, ◌<◌, ◌^◌, IfOk, OnOk};
-ghost use Rattle.name_library.specs.Library.{declared_at, depth_after, exported_by, exports, exports_by, is_end, opened_ident, part_of, unit_after, unit_opened};
+ghost use Rattle.std.specs.Prelude.{◌≡◌, ℕ, [], ◌++◌, ◌<◌, ◌^◌, IfOk, OnOk};
+ghost use Rattle.std.specs.BTreeMap.{get};
+ghost use Rattle.std.specs.Ordering.{nat_cmp};
+ghost use Rattle.std.specs.Option.{option_copied};
+ghost use Rattle.name_library.specs.Library.{declared_at, depth_after, export_named, exported_by, exports, exports_by, is_end, opened_ident, part_of, unit_after, unit_opened};
 
 use crate::events::{Event, Ident, Scope};
 use crate::links::Spot;
 use sqlite_items::Items;
 use std::alloc::{AllocError, Global};
+use std::collections::BTreeMap;
+use std::marker::Model;
 
 /// What a unit is (Ada RM 10.1.1).
 #[derive(Clone, Copy)]
@@ -24,13 +29,73 @@ pub struct Export {
     pub spot: Spot,
 }
 
+/// What a package exports, in the order of the text. Contracts see it as the list of the declarations.
+pub struct Exports {
+    list: Items<Export>,
+    /// Of each name the first declaration.
+    first: BTreeMap<u32, Export>,
+}
+
+impl Model for Exports {
+    ghost use Rattle.std.specs.Prelude.{◌≡◌, ℕ, List};
+    ghost use Rattle.std.specs.BTreeMap.{get};
+    ghost use Rattle.std.specs.Ordering.{nat_cmp};
+    ghost use Rattle.name_library.specs.declared.library.Export.{Export};
+
+    ghost Value = { List Export };
+
+    ghost use Rattle.name_library.specs.Library.{export_named};
+
+    ghost view = { λ a. a.list };
+
+    ghost invariant = { λ a. (n : ℕ) → get nat_cmp a.first n ≡ export_named n a.list };
+}
+
+impl Drop for Exports {
+    fn drop(self) {
+        let Exports { list, first } = self;
+        drop(list);
+        drop(first);
+    }
+}
+
+/// Of each name the first declaration.
+fn first_of_each(alloc: Global, list: &[Export]) -> Result<BTreeMap<u32, Export>, AllocError>
+    ensures { IfOk result (λ first. (n : ℕ) → get nat_cmp first n ≡ export_named n list.now) }
+{
+    let mut first = BTreeMap::new(alloc);
+    let mut left = list.len();
+    while left > 0 {
+        left -= 1;
+        let export = list[left];
+        first.insert(export.name, export)?;
+    }
+    Ok(first)
+}
+
+impl Exports {
+    pub(crate) fn new(alloc: Global, list: Items<Export>) -> Result<Exports, AllocError>
+        ensures { IfOk result (λ it. it ≡ list) }
+    {
+        let first = first_of_each(alloc, list.as_slice())?;
+        Ok(Exports { list, first })
+    }
+
+    /// The declaration of a name, the first where there are several.
+    pub fn named(&self, name: u32) -> Option<Export>
+        ensures { result ≡ export_named name self.now }
+    {
+        self.first.get(&name).copied()
+    }
+}
+
 /// A unit: its name and where that stands, the names of its with clauses, and what a package exports.
 pub struct LibraryUnit {
     pub name: u32,
     pub spot: Spot,
     pub part: Part,
     pub withs: Items<Ident>,
-    pub exports: Items<Export>,
+    pub exports: Exports,
 }
 
 impl Drop for LibraryUnit {
@@ -48,7 +113,7 @@ impl Drop for LibraryUnit {
 }
 
 /// The name of the package or the subprogram whose scope opens.
-pub(crate) fn opened_ident(scope: Scope) -> Option<Ident>
+pub fn opened_ident(scope: Scope) -> Option<Ident>
     ensures { result ≡ opened_ident scope }
 {
     match scope {
@@ -108,7 +173,7 @@ fn put(found: &mut Items<Export>, file: u32, name: Option<Ident>) -> Result<(), 
 
 /// What a package exports, by the events after its scope opened: the declarations up to the end of the list, in order.
 #[tactic(auto, using(crate::proofs::Walked::ended, crate::proofs::Walked::goes_on))]
-pub fn exports(alloc: Global, file: u32, mut events: &[Event]) -> Result<Items<Export>, AllocError>
+fn read_exports(alloc: Global, file: u32, mut events: &[Event]) -> Result<Items<Export>, AllocError>
     ensures { IfOk result (λ found. found ≡ exports file 0 events.entry.now) }
 {
     let mut found = Items::new(alloc);
@@ -135,18 +200,14 @@ fn part_of(scope: Scope) -> Part
     }
 }
 
-fn exports_by(
-    alloc: Global,
-    file: u32,
-    part: Part,
-    events: &[Event],
-) -> Result<Items<Export>, AllocError>
+fn exports_by(alloc: Global, file: u32, part: Part, events: &[Event]) -> Result<Exports, AllocError>
     ensures { IfOk result (λ found. found ≡ exports_by file part events.now) }
 {
-    match part {
-        Part::PackageDeclaration => exports(alloc, file, events),
-        _ => Ok(Items::new(alloc)),
-    }
+    let found = match part {
+        Part::PackageDeclaration => read_exports(alloc, file, events)?,
+        _ => Items::new(alloc),
+    };
+    Exports::new(alloc, found)
 }
 
 fn unit_opened(

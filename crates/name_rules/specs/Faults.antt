@@ -1,5 +1,5 @@
 -- All broken rules of names of a program, one line a demand, and its answer: the first of them, or all links.
-use Rattle.std.specs.Prelude.{◌≡◌, ℕ, Bool, true, false, not, ◌&&◌, ◌||◌, ◌==◌, ◌-◌, ◌++◌, ◌⊎◌, nat_lt, List, [], ◌∷◌, reverse, Option, Some, None, is_some, if◌then◌else◌}
+use Rattle.std.specs.Prelude.{◌≡◌, ℕ, Bool, true, false, not, ◌&&◌, ◌||◌, ◌==◌, ◌-◌, ◌++◌, ◌⊎◌, nat_lt, List, [], ◌∷◌, slice_get, Option, Some, None, is_some, unwrap_or, if◌then◌else◌}
 use Rattle.name_library.specs.declared.events.Event.{Event}
 use Rattle.name_library.specs.declared.events.Ident.{Ident}
 use Rattle.name_library.specs.declared.links.Fault.{Fault}
@@ -10,15 +10,21 @@ use Rattle.name_library.specs.declared.links.Usage.{Usage}
 use Rattle.name_library.specs.declared.library.LibraryUnit.{LibraryUnit}
 use Rattle.name_library.specs.declared.library.Part.TheVariants as part
 use Rattle.name_library.specs.declared.library.Part.{Part}
-use Rattle.name_library.specs.Library.{declaration_of, goes_with, leads_back, library, spot_of, unit_as}
-use Rattle.name_scopes.specs.Scopes.{Entry, Frame, Sort, subprogram, State, standard_names}
-use Rattle.name_scopes.specs.Steps.{Around, after, carried, start}
+use Rattle.name_library.specs.Library.{goes_with, library, spot_of, unit_as}
+use Rattle.name_library.specs.Chains.{leads_back, own_declaration}
+use Rattle.name_scopes.specs.declared.entries.Entry.{Entry}
+use Rattle.name_scopes.specs.declared.entries.Sort.{Sort}
+use Rattle.name_scopes.specs.declared.entries.Sort.TheVariants as sort
+use Rattle.name_scopes.specs.declared.state.Scopes.{Scopes}
+use Rattle.name_scopes.specs.Scopes.{standard_names}
+use Rattle.name_scopes.specs.State.{carried, start}
+use Rattle.name_scopes.specs.Steps.{after}
 
 abbrev fault : NameFault → Spot → Fault
 fault r p = record { rule = r; spot = p }
 
 -- no fault where the demand is met
-abbrev unless : Bool → NameFault → Spot → List Fault
+abbrev pub unless : Bool → NameFault → Spot → List Fault
 unless true r p = []
 unless false r p = fault r p ∷ []
 
@@ -28,19 +34,20 @@ unless false r p = fault r p ∷ []
 abbrev pub not_standard : LibraryUnit → List Fault
 not_standard u = unless (not (nat_lt u.name standard_names)) rule.Duplicate u.spot
 
-abbrev is_other : LibraryUnit → LibraryUnit → Bool
-is_other u v = not (u.name == v.name) || goes_with u.part v.part
+-- the first is in an earlier file and has the name, and isn't the declaration for the other's body, or the body for its declaration
+abbrev pub is_twice : LibraryUnit → LibraryUnit → Bool
+is_twice v u = nat_lt v.spot.file u.spot.file && (v.name == u.name) && not (goes_with u.part v.part)
 
-abbrev all_other : List LibraryUnit → LibraryUnit → Bool
-all_other [] u = true
-all_other (v ∷ vs) u = is_other v u && all_other vs u
+abbrev pub has_twice : List LibraryUnit → LibraryUnit → Bool
+has_twice [] u = false
+has_twice (v ∷ vs) u = is_twice v u || has_twice vs u
 
--- of the units before it none has its name but the declaration for a body, or the body for a declaration
+-- no unit of an earlier file has its name
 abbrev pub not_twice : List LibraryUnit → LibraryUnit → List Fault
-not_twice before u = unless (all_other before u) rule.Duplicate u.spot
+not_twice l u = unless (not (has_twice l u)) rule.Duplicate u.spot
 
 -- a body of a package has its declaration
-abbrev has_declaration : List LibraryUnit → LibraryUnit → Part → Bool
+abbrev pub has_declaration : List LibraryUnit → LibraryUnit → Part → Bool
 has_declaration l u part.PackageBody = is_some (unit_as part.PackageDeclaration u.name l)
 has_declaration l u _ = true
 
@@ -48,41 +55,33 @@ abbrev pub declared_before : List LibraryUnit → LibraryUnit → List Fault
 declared_before l u = unless (has_declaration l u u.part) rule.UnknownName u.spot
 
 -- the declaration of a library subprogram has its body
-abbrev has_body : List LibraryUnit → LibraryUnit → Part → Bool
+abbrev pub has_body : List LibraryUnit → LibraryUnit → Part → Bool
 has_body l u part.SubprogramDeclaration = is_some (unit_as part.SubprogramBody u.name l)
 has_body l u _ = true
 
 abbrev pub with_its_body : List LibraryUnit → LibraryUnit → List Fault
 with_its_body l u = unless (has_body l u u.part) rule.MissingBody u.spot
 
-abbrev circle : List LibraryUnit → ℕ → Ident → Option LibraryUnit → List Fault
-circle l file i None = []
-circle l file i (Some v) = unless (not (leads_back l (v.spot.file ∷ []) file)) rule.WithCycle (spot_of file i)
-
 -- no chain of with clauses leads from what it withs back to it
 abbrev pub circles : List LibraryUnit → ℕ → List Ident → List Fault
 circles l file [] = []
-circles l file (i ∷ more) = circle l file i (declaration_of l i.name) ++ circles l file more
+circles l file (i ∷ more) = unless (not (leads_back l i.name file)) rule.WithCycle (spot_of file i) ++ circles l file more
 
-abbrev unit_faults : List LibraryUnit → List LibraryUnit → LibraryUnit → List Fault
-unit_faults l before u = not_standard u ++ not_twice before u ++ declared_before l u ++ with_its_body l u ++ circles l u.spot.file u.withs
+abbrev pub unit_faults : List LibraryUnit → LibraryUnit → List Fault
+unit_faults l u = not_standard u ++ not_twice l u ++ declared_before l u ++ with_its_body l u ++ circles l u.spot.file u.withs
 
-abbrev all_units : List LibraryUnit → List LibraryUnit → List LibraryUnit → List Fault
-all_units l before [] = []
-all_units l before (u ∷ us) = unit_faults l before u ++ all_units l (before ++ u ∷ []) us
+abbrev pub all_units : List LibraryUnit → List LibraryUnit → List Fault
+all_units l [] = []
+all_units l (u ∷ us) = unit_faults l u ++ all_units l us
 
 -- ---- demands where a file ends
 
-abbrev top_entries : List Frame → List Entry
-top_entries [] = []
-top_entries (f ∷ fs) = f.entries
-
 abbrev lacks_body : Sort → Bool
-lacks_body (subprogram false p) = true
+lacks_body (sort.Subprogram false k) = true
 lacks_body _ = false
 
 abbrev is_subprogram : Sort → Bool
-is_subprogram (subprogram b p) = true
+is_subprogram (sort.Subprogram b k) = true
 is_subprogram _ = false
 
 -- each subprogram that is declared in a package has a body in the package's body
@@ -94,29 +93,23 @@ abbrev has_subprogram : List Entry → Bool
 has_subprogram [] = false
 has_subprogram (e ∷ es) = is_subprogram e.sort || has_subprogram es
 
-abbrev around : List LibraryUnit → ℕ → Around
-around l file = record { file = file; units = l }
-
-abbrev events_of : List (List Event) → ℕ → List Event
-events_of [] n = []
-events_of (es ∷ ess) n = if n == 0 then es else events_of ess (n - 1)
+abbrev pub events_of : List (List Event) → ℕ → List Event
+events_of files n = unwrap_or (slice_get files n) []
 
 -- what stands at the end of the declaration of a unit
-abbrev declared_state : List (List Event) → List LibraryUnit → LibraryUnit → State
-declared_state files l u = after (around l u.spot.file) start (events_of files u.spot.file)
+abbrev declared_state : List (List Event) → List LibraryUnit → LibraryUnit → Scopes
+declared_state files l u = after l (start u.spot.file) (events_of files u.spot.file)
 
-abbrev carried_state : List (List Event) → List LibraryUnit → Option LibraryUnit → State
-carried_state files l None = start
-carried_state files l (Some u) = carried (declared_state files l u)
+abbrev carried_state : List (List Event) → List LibraryUnit → ℕ → Option LibraryUnit → Scopes
+carried_state files l file None = start file
+carried_state files l file (Some u) = carried file (declared_state files l u)
 
 -- what a unit begins with: a body goes on where its declaration ends
-abbrev pub opening : List (List Event) → List LibraryUnit → LibraryUnit → Part → State
-opening files l u part.PackageBody = carried_state files l (unit_as part.PackageDeclaration u.name l)
-opening files l u part.SubprogramBody = carried_state files l (unit_as part.SubprogramDeclaration u.name l)
-opening files l u _ = start
+abbrev pub opening : List (List Event) → List LibraryUnit → LibraryUnit → Scopes
+opening files l u = carried_state files l u.spot.file (own_declaration l u.name u.part)
 
-abbrev pub state_of : List (List Event) → List LibraryUnit → LibraryUnit → State
-state_of files l u = after (around l u.spot.file) (opening files l u u.part) (events_of files u.spot.file)
+abbrev pub state_of : List (List Event) → List LibraryUnit → LibraryUnit → Scopes
+state_of files l u = after l (opening files l u) (events_of files u.spot.file)
 
 -- a package without its body declares no subprogram
 abbrev without_body : LibraryUnit → List Entry → Option LibraryUnit → List Fault
@@ -128,14 +121,14 @@ abbrev wanted_body : LibraryUnit → List Entry → Option LibraryUnit → List 
 wanted_body u es None = []
 wanted_body u es (Some v) = unless (has_subprogram es) rule.SpecMismatch u.spot
 
-abbrev end_faults : List (List Event) → List LibraryUnit → LibraryUnit → Part → State → List Fault
-end_faults files l u part.PackageDeclaration s = without_body u (top_entries s.frames) (unit_as part.PackageBody u.name l)
+abbrev end_faults : List (List Event) → List LibraryUnit → LibraryUnit → Part → Scopes → List Fault
+end_faults files l u part.PackageDeclaration s = without_body u s.top.entries (unit_as part.PackageBody u.name l)
 end_faults files l u part.PackageBody s =
-    wanted_body u (top_entries (opening files l u part.PackageBody).frames) (unit_as part.PackageDeclaration u.name l) ++ bodies (top_entries s.frames)
+    wanted_body u (opening files l u).top.entries (unit_as part.PackageDeclaration u.name l) ++ bodies s.top.entries
 end_faults files l u _ s = []
 
-abbrev file_faults : List (List Event) → List LibraryUnit → LibraryUnit → State → List Fault
-file_faults files l u s = s.faults ++ end_faults files l u u.part s
+abbrev file_faults : List (List Event) → List LibraryUnit → LibraryUnit → Scopes → List Fault
+file_faults files l u s = s.findings.faults ++ end_faults files l u u.part s
 
 abbrev all_files : List (List Event) → List LibraryUnit → List LibraryUnit → List Fault
 all_files files l [] = []
@@ -143,7 +136,7 @@ all_files files l (u ∷ us) = file_faults files l u (state_of files l u) ++ all
 
 -- all broken rules
 abbrev pub faults : List (List Event) → List Fault
-faults files = all_units (library files) [] (library files) ++ all_files files (library files) (library files)
+faults files = all_units (library files) (library files) ++ all_files files (library files) (library files)
 
 -- ---- the first of them
 
@@ -191,7 +184,7 @@ IsFirst (Some f) fs = IsIn f fs × NoneBefore f fs
 
 abbrev all_usages : List (List Event) → List LibraryUnit → List LibraryUnit → List Usage
 all_usages files l [] = []
-all_usages files l (u ∷ us) = reverse (state_of files l u).usages ++ all_usages files l us
+all_usages files l (u ∷ us) = (state_of files l u).findings.usages ++ all_usages files l us
 
 -- what each identifier stands for, in the order of files and of the text
 abbrev pub usages : List (List Event) → List Usage

@@ -1,1 +1,3 @@
 mod Meanings
+mod Only
+mod Places
