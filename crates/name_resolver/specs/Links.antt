@@ -1,5 +1,5 @@
 -- What identifiers stand for.
-use Rattle.std.specs.Prelude.{◌≡◌, ℕ, Bool, ◌&&◌, ◌==◌, List, [], ◌∷◌, Option, Some, None, if◌then◌else◌}
+use Rattle.std.specs.Prelude.{◌≡◌, ℕ, ◌&&◌, ◌==◌, List, [], ◌∷◌, Option, Some, None, if◌then◌else◌}
 use Rattle.std.specs.HashMap.{HashMap, get_by}
 use Rattle.name_library.specs.declared.links.Link.{Link}
 use Rattle.name_library.specs.declared.links.Spot.{Spot}

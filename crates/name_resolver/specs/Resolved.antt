@@ -1,12 +1,11 @@
 -- The names of a program: what its identifiers stand for, or its refusal.
-use Rattle.std.specs.Prelude.{◌≡◌, ℕ, List, [], ◌∷◌, map, slice_get, unwrap_or, Result, Ok, Err}
-use Rattle.ada_syntax.specs.declared.units.SourceUnit.{SourceUnit}
+use Rattle.std.specs.Prelude.{ℕ, List, [], ◌∷◌, map, slice_get, unwrap_or, Result, Ok, Err}
 use Rattle.syntax_view.specs.View.{source_unit}
 use Rattle.ada_values.specs.declared.place.Place.{Place}
 use Rattle.front_codes.specs.declared.codes.Code.{Code}
 use Rattle.front_codes.specs.declared.codes.Code.TheVariants as code
 use Rattle.front_codes.specs.declared.codes.Refusal.{Refusal}
-use Rattle.text_lines.specs.Lines.{line_starts, place_in}
+use Rattle.text_lines.specs.Lines.{place_in}
 use Rattle.name_library.specs.declared.events.Event.{Event}
 use Rattle.name_library.specs.declared.events.Ident.{Ident}
 use Rattle.name_library.specs.declared.links.Fault.{Fault}
@@ -52,22 +51,29 @@ code_of rule.MissingBody = code.MissingBody
 code_of rule.SpecMismatch = code.SpecMismatch
 code_of rule.LeftOut = code.LeftOut
 
+-- the text of a file by its number
+abbrev pub text_of : List SourceFile → ℕ → List ℕ
+text_of fs n = unwrap_or (slice_get (texts_of fs) n) []
+
 abbrev pub place_of : List SourceFile → Spot → Place
-place_of fs p = place_in (unwrap_or (slice_get (texts_of fs) p.file) []) p.file p.at
+place_of fs p = place_in (text_of fs p.file) p.file p.at
 
 abbrev pub refusal_of : List SourceFile → Fault → Refusal
 refusal_of fs f = record { code = code_of f.rule; place = place_of fs f.spot }
 
 -- ---- the answer
 
-abbrev pub resolved_by : List SourceFile → Answer → Result (List Usage) Refusal
-resolved_by fs (answered.Refused f) = Err (refusal_of fs f)
-resolved_by fs (answered.Named us) = Ok us
+abbrev pub told : List SourceFile → Answer → Result (List Usage) Refusal
+told fs (answered.Refused f) = Err (refusal_of fs f)
+told fs (answered.Named us) = Ok us
+
+unfoldable pub resolved_by : List SourceFile → List (List Event) → Result (List Usage) Refusal
+resolved_by fs ess = told fs (answer ess)
 
 -- what each identifier stands for, or the refusal of the first broken rule of names
-unfoldable pub resolved : List SourceFile → Result (List Usage) Refusal
-resolved fs = resolved_by fs (answer (events_of fs))
+abbrev pub resolved : List SourceFile → Result (List Usage) Refusal
+resolved fs = resolved_by fs (events_of fs)
 
 -- the files in an order in which each unit comes after what it depends on
-unfoldable pub order_of : List SourceFile → List ℕ
-order_of fs = order (library (events_of fs))
+unfoldable pub order_by : List (List Event) → List ℕ
+order_by ess = order (library ess)

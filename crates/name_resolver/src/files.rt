@@ -54,7 +54,11 @@ pub fn lines_of(alloc: Global, files: &[SourceFile]) -> Result<Items<Lines>, All
 
 /// What a file tells of names.
 #[tactic(auto, unfolding(crate::specs::Resolved::events_in))]
-fn events_in(alloc: Global, table: &NameTable, file: &SourceFile) -> Result<Items<Event>, AllocError>
+fn events_in(
+    alloc: Global,
+    table: &NameTable,
+    file: &SourceFile,
+) -> Result<Items<Event>, AllocError>
     ensures { IfOk result (λ found. found ≡ events_in table.now file.now) }
 {
     events_of(alloc, table, &file.unit)

@@ -2,7 +2,7 @@
 
 ghost use Rattle.std.specs.Prelude.{◌≡◌, ◌-◌, ◌<◌, ◌^◌, length};
 ghost use Rattle.std.specs.List.{sum_by};
-ghost use Rattle.name_resolver.specs.Resolved.{code_of, place_of, refusal_of};
+ghost use Rattle.name_resolver.specs.Resolved.{code_of, place_of, refusal_of, text_of};
 ghost use Rattle.text_lines.specs.Lines.{place_in};
 
 use crate::files::SourceFile;
@@ -13,6 +13,7 @@ use name_library::{Fault, NameFault, Spot};
 use std::alloc::AllocError;
 
 /// Why the names of a program aren't resolved.
+#[derive(Clone, Copy)]
 pub enum NameRefusal {
     /// The first rule of names that is broken, and where.
     Refused(Refusal),
@@ -54,17 +55,25 @@ fn place_in(text: &[u8], file: u32, at: u32) -> Place
     Place { file, line, column }
 }
 
+/// The text of a file by its number; none where there is no such file.
+fn text_of(files: &[SourceFile], number: usize) -> &[u8]
+    requires { sum_by (λ f. length f.text) files.now < 2 ^ 31 }
+    ensures value { result.now ≡ text_of files.now number }
+    ensures short { length result.now < 2 ^ 31 }
+{
+    if number < files.len() {
+        files[number].text.as_slice()
+    } else {
+        &[]
+    }
+}
+
 /// The place of a byte of a file.
 fn place_of(files: &[SourceFile], spot: Spot) -> Place
     requires { sum_by (λ f. length f.text) files.now < 2 ^ 31 }
     ensures { result ≡ place_of files.now spot }
 {
-    let number = spot.file as usize;
-    if number < files.len() {
-        place_in(files[number].text.as_slice(), spot.file, spot.at)
-    } else {
-        place_in(&[], spot.file, spot.at)
-    }
+    place_in(text_of(files, spot.file as usize), spot.file, spot.at)
 }
 
 pub fn refusal_of(files: &[SourceFile], fault: Fault) -> Refusal

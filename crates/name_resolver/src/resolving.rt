@@ -4,7 +4,7 @@ ghost use Rattle.std.specs.Prelude.{◌≡◌, ◌<◌, ◌^◌, Err, IfErr, IfO
 ghost use Rattle.std.specs.List.{sum_by};
 ghost use Rattle.name_resolver.specs.declared.refusals.NameRefusal.TheVariants as refusal;
 ghost use Rattle.front_codes.specs.declared.codes.Refusal.{Refusal};
-ghost use Rattle.name_resolver.specs.Resolved.{events_of, order_of, resolved, texts_of};
+ghost use Rattle.name_resolver.specs.Resolved.{events_of, order_by, resolved, resolved_by, texts_of};
 ghost use Rattle.name_numbers.specs.Numbers.{numbered};
 ghost use Rattle.text_lines.specs.Lines.{line_starts};
 
@@ -46,16 +46,15 @@ impl Drop for Named {
 }
 
 /// The names of a program by what its files tell of them.
-#[tactic(auto, unfolding(crate::specs::Resolved::resolved))]
+#[tactic(auto, unfolding(crate::specs::Resolved::resolved_by))]
 fn usages_of(
     alloc: Global,
     files: &[SourceFile],
     events: &[Items<Event>],
 ) -> Result<Items<Usage>, NameRefusal>
     requires few { sum_by (λ f. length f.text) files.now < 2 ^ 31 }
-    requires events { events.now ≡ events_of files.now }
-    ensures named { IfOk result (λ usages. resolved files.now ≡ Ok usages) }
-    ensures refused { IfErr result (λ r. (f : Refusal) → r ≡ refusal.Refused f → resolved files.now ≡ Err f) }
+    ensures named { IfOk result (λ usages. resolved_by files.now events.now ≡ Ok usages) }
+    ensures refused { IfErr result (λ r. (f : Refusal) → r ≡ refusal.Refused f → resolved_by files.now events.now ≡ Err f) }
 {
     match answer_of(alloc, events)? {
         Answer::Refused(fault) => Err(NameRefusal::Refused(refusal_of(files, fault))),
@@ -64,16 +63,10 @@ fn usages_of(
 }
 
 /// The order of the files by what they tell of names.
-#[tactic(auto, unfolding(crate::specs::Resolved::order_of))]
-fn order_of(
-    alloc: Global,
-    files: &[SourceFile],
-    events: &[Items<Event>],
-) -> Result<Items<u32>, AllocError>
-    requires { events.now ≡ events_of files.now }
-    ensures { IfOk result (λ files_in_order. files_in_order ≡ order_of files.now) }
+#[tactic(auto, unfolding(crate::specs::Resolved::order_by))]
+fn order_by(alloc: Global, events: &[Items<Event>]) -> Result<Items<u32>, AllocError>
+    ensures { IfOk result (λ numbers. numbers ≡ order_by events.now) }
 {
-    let _ = files;
     let library = Library::new(alloc, events)?;
     order(alloc, &library)
 }
@@ -85,17 +78,19 @@ pub fn resolve(alloc: Global, files: &[SourceFile]) -> Result<Named, NameRefusal
     ensures links { IfOk result (λ named. resolved files.now ≡ Ok named.links) }
     ensures tables { IfOk result (λ named. named.tables ≡ numbered (texts_of files.now)) }
     ensures lines { IfOk result (λ named. named.lines ≡ map line_starts (texts_of files.now)) }
-    ensures order { IfOk result (λ named. named.order ≡ order_of files.now) }
+    ensures order { IfOk result (λ named. named.order ≡ order_by (events_of files.now)) }
     ensures refused { IfErr result (λ r. (f : Refusal) → r ≡ refusal.Refused f → resolved files.now ≡ Err f) }
 {
     let tables = tables_of(alloc, files)?;
     let events = all_events(alloc, tables.as_slice(), files)?;
     let usages = usages_of(alloc, files, events.as_slice())?;
-    let order = order_of(alloc, files, events.as_slice())?;
+    let order = order_by(alloc, events.as_slice())?;
+    let lines = lines_of(alloc, files)?;
+    let links = Links::new(alloc, usages)?;
     Ok(Named {
         tables,
-        lines: lines_of(alloc, files)?,
-        links: Links::new(alloc, usages)?,
+        lines,
+        links,
         order,
     })
 }
