@@ -2,7 +2,6 @@
 use Rattle.std.proofs.Common.{◌≡◌, refl, Bool, true, false, List, [], ◌∷◌}
 use Rattle.std.specs.Prelude.{if◌then◌else◌, ◌&&◌}
 use Rattle.name_library.specs.declared.links.Link.{Link}
-use Rattle.name_frames.specs.declared.meaning.Found.{Found}
 use Rattle.name_frames.specs.declared.meaning.Found.TheVariants.{One, Missing, Several}
 use Rattle.name_frames.specs.Joined.{all_joined}
 use Rattle.name_frames.specs.Profiles.{same_link}

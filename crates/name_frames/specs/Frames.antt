@@ -1,5 +1,5 @@
 -- Scopes that are open, and what a name stands for by what they declare (Ada RM 8.1, 8.3).
-use Rattle.std.specs.Prelude.{ℕ, Bool, true, false, not, ◌&&◌, ◌==◌, nat_lt, List, [], ◌∷◌, find, Option, Some, None, is_some, if◌then◌else◌}
+use Rattle.std.specs.Prelude.{ℕ, Bool, true, false, not, ◌==◌, nat_lt, List, [], ◌∷◌, find, Option, Some, None, is_some, if◌then◌else◌}
 use Rattle.name_library.specs.declared.links.Spot.{Spot}
 use Rattle.name_library.specs.Library.{same_spot}
 use Rattle.name_frames.specs.declared.entries.Entry.{Entry}

@@ -1,5 +1,5 @@
 -- What is visible at a place, and what a name stands for there (Ada RM 8.2, 8.3, 8.4).
-use Rattle.std.specs.Prelude.{◌≡◌, ℕ, Bool, true, false, ◌&&◌, ◌==◌, ◌++◌, nat_lt, List, [], ◌∷◌, Option, Some, None, if◌then◌else◌}
+use Rattle.std.specs.Prelude.{ℕ, Bool, true, ◌&&◌, nat_lt, List, [], ◌∷◌, Option, Some, None, if◌then◌else◌}
 use Rattle.name_library.specs.declared.library.Export.{Export}
 use Rattle.name_library.specs.declared.library.LibraryUnit.{LibraryUnit}
 use Rattle.name_library.specs.declared.links.Link.{Link}
@@ -10,7 +10,7 @@ use Rattle.name_frames.specs.declared.frames.Frame.{Frame}
 use Rattle.name_frames.specs.declared.frames.Sight.{Sight}
 use Rattle.name_frames.specs.declared.meaning.Found.{Found}
 use Rattle.name_frames.specs.declared.meaning.Found.TheVariants.{One, Missing, Several}
-use Rattle.name_frames.specs.Frames.{enclosing, innermost, seen_in}
+use Rattle.name_frames.specs.Frames.{enclosing, seen_in}
 use Rattle.name_frames.specs.Profiles.{same_link}
 
 -- ---- use clauses

@@ -1,5 +1,5 @@
 -- Profiles of subprograms (Ada RM 6.1), and when two are the same (Ada RM 6.3.1).
-use Rattle.std.specs.Prelude.{ℕ, Bool, true, false, ◌&&◌, ◌==◌, ◌++◌, List, [], ◌∷◌, Option, Some, None}
+use Rattle.std.specs.Prelude.{Bool, true, false, ◌&&◌, ◌==◌, ◌++◌, List, [], ◌∷◌, Option, Some, None}
 use Rattle.name_library.specs.declared.events.Mode.{Mode}
 use Rattle.name_library.specs.declared.events.Mode.TheVariants as mode
 use Rattle.name_library.specs.declared.links.Link.{Link}

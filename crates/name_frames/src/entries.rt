@@ -80,6 +80,7 @@ impl Entries {
         }
     }
 
+    /// How many declarations there are.
     pub fn len(&self) -> usize
         ensures { result ≡ length self.now }
     {

@@ -1,5 +1,6 @@
 -- A name stands for the last declaration of it whose scope is open.
-use Rattle.std.proofs.Common.{◌≡◌, refl, sym, ap, subst, ℕ, Bool, true, false, List, [], ◌∷◌, Option, Some, None, ◌⊎◌, inl, inr}
+use Rattle.std.proofs.Common.{◌≡◌, refl, sym, subst, ℕ, Bool, true, false, List, [], ◌∷◌, Option, Some, None, arith}
+use Rattle.std.proofs.lemmas.Bool.Decides.{nat_tests}
 use Rattle.std.specs.Prelude.{if◌then◌else◌, ◌==◌, nat_lt}
 use Rattle.name_library.specs.declared.events.Event.{Event}
 use Rattle.name_library.specs.declared.library.LibraryUnit.{LibraryUnit}
@@ -10,60 +11,70 @@ use Rattle.name_frames.specs.declared.frames.Owner.{Owner}
 use Rattle.name_frames.specs.declared.frames.Owner.TheVariants as owner
 use Rattle.name_frames.specs.declared.frames.Sight.{Sight}
 use Rattle.name_frames.specs.declared.meaning.Found.{Found}
-use Rattle.name_frames.specs.declared.meaning.Found.TheVariants.{One, Missing, Several}
+use Rattle.name_frames.specs.declared.meaning.Found.TheVariants.{One, Missing}
 use Rattle.name_scopes.specs.declared.state.Scopes.{Scopes}
 use Rattle.name_frames.specs.Entries.{entry_of}
-use Rattle.name_frames.specs.Frames.{else_sight, hidden_as, hides, innermost, seen_as, sight}
+use Rattle.name_frames.specs.Frames.{else_sight, hidden_as, hides, innermost, seen_as}
 use Rattle.name_scopes.specs.Open.{Item, Open, StandsFor, else_item, item_named, last_declared, nothing_open, open_after}
 use Rattle.name_frames.specs.Meaning.{by_scopes, by_sight, outside}
 use Rattle.name_scopes.specs.State.{carried, frames, start}
 use Rattle.name_scopes.specs.Steps.{after, meaning}
 use Rattle.name_scopes.specs.Visible.{IsFromOutside}
-use Rattle.name_scopes.proofs.Opened.{AllFrames, Matches, SameFound, after_is, same_found, start_is}
+use Rattle.name_scopes.proofs.Opened.{AllFrames, IsAround, Matches, NotNone, SameFound, after_is, items_of, same_found, start_is}
 
-abbrev NotSeen : Option Sight → Type 0
-NotSeen None = Unit {0}
-NotSeen (Some e) = e.ended ≡ false
+-- what a subprogram hides in its own profile is declared in the scope around, and is not seen
+abbrev Says : Option Sight → Option Item → Type 0
+Says None y = Unit {0}
+Says (Some e) None = ⊥
+Says (Some e) (Some i) = e.ended ≡ false
 
-hidden_is : (n : ℕ) (w : Owner) → NotSeen (hidden_as n w)
-hidden_is n owner.Units = tt
-hidden_is n (owner.Package m p) = tt
-hidden_is n (owner.Subprogram m p q) =
-    let P : Bool → Type 0 = λ b. NotSeen (if b then Some (record { spot = p; ended = false; local = false }) else None) in
-    elim (m == n) as P [ true ↦ refl | false ↦ tt ]
-hidden_is n owner.Block = tt
+equal : (m n : ℕ) → (m == n) ≡ true → m ≡ n
+equal m n h = grind (arith, nat_tests)
 
-hides_is : (n : ℕ) (f : Frame) → NotSeen (hides n f)
-hides_is n f =
-    let P : Bool → Type 0 = λ b. NotSeen (if b then hidden_as n f.owner else None) in
-    elim f.hidden as P [ true ↦ hidden_is n f.owner | false ↦ tt ]
+says_item : (e : Sight) (y rest : Option Item) → e.ended ≡ false → NotNone y → Says (Some e) (else_item y rest)
+says_item e None rest h k = absurd k
+says_item e (Some i) rest h k = h
 
--- by what is declared, or by nothing, or from outside
+says_if : (m n : ℕ) (e : Sight) (os : List Open) (b : Bool) → (m == n) ≡ b → e.ended ≡ false → NotNone (item_named m (items_of os)) → Says (if b then Some e else None) (last_declared n os)
+says_if m n e [] b g h k = absurd k
+says_if m n e (o ∷ os) false g h k = tt
+says_if m n e (o ∷ os) true g h k =
+    let P : ℕ → Type 0 = λ x. NotNone (item_named x o.items) in
+    says_item e (item_named n o.items) (last_declared n os) h (subst P (equal m n g) k)
+
+hidden_says : (n : ℕ) (w : Owner) (b : Bool) (os : List Open) → IsAround w b os → Says (if b then hidden_as n w else None) (last_declared n os)
+hidden_says n w false os h = tt
+hidden_says n owner.Units true os h = tt
+hidden_says n (owner.Package m p) true os h = tt
+hidden_says n (owner.Subprogram m p q) true os h = says_if m n (record { spot = p; ended = false; local = false }) os (m == n) refl refl h
+hidden_says n owner.Block true os h = tt
+
+-- by what is declared, or else from outside
 abbrev Stood : List LibraryUnit → List ℕ → List ℕ → ℕ → Option Item → Option Sight → Type 0
 Stood l withs used n (Some i) e = StandsFor i (by_scopes l withs used n e)
-Stood l withs used n None e = (by_scopes l withs used n e ≡ Missing) ⊎ (by_scopes l withs used n e ≡ outside l withs used n)
+Stood l withs used n None e = by_scopes l withs used n e ≡ outside l withs used n
 
 not_seen : (e : Sight) → e.ended ≡ false → by_sight e ≡ Missing
 not_seen e h = let P : Bool → Type 0 = λ b. (if b then One (Declared e.spot) else Missing) ≡ Missing in subst P (sym h) refl
 
-stood_past : (l : List LibraryUnit) (withs used : List ℕ) (n : ℕ) (y : Option Item) (x rest : Option Sight) → NotSeen x → Stood l withs used n y rest → Stood l withs used n y (else_sight x rest)
-stood_past l withs used n y None rest h s = s
-stood_past l withs used n (Some i) (Some e) rest h s = let P : Found → Type 0 = λ f. StandsFor i f in subst P (sym (not_seen e h)) tt
-stood_past l withs used n None (Some e) rest h s = inl (not_seen e h)
+stood_past : (l : List LibraryUnit) (withs used : List ℕ) (n : ℕ) (x rest : Option Sight) (y : Option Item) → Says x y → Stood l withs used n y rest → Stood l withs used n y (else_sight x rest)
+stood_past l withs used n None rest y h s = s
+stood_past l withs used n (Some e) rest (Some i) h s = let P : Found → Type 0 = λ f. StandsFor i f in subst P (sym (not_seen e h)) tt
+stood_past l withs used n (Some e) rest None h s = absurd h
 
-stood_by : (l : List LibraryUnit) (withs used : List ℕ) (n : ℕ) (f : Frame) (x : Option Entry) (y more : Option Item) (rest : Option Sight) → SameFound x y → Stood l withs used n more rest → Stood l withs used n (else_item y more) (else_sight (seen_as n f x) rest)
-stood_by l withs used n f None None more rest h s = stood_past l withs used n more (hides n f) rest (hides_is n f) s
-stood_by l withs used n f None (Some i) more rest h s = absurd h
-stood_by l withs used n f (Some e) None more rest h s = absurd h
-stood_by l withs used n f (Some e) (Some i) more rest h s =
+stood_by : (l : List LibraryUnit) (withs used : List ℕ) (n : ℕ) (f : Frame) (x : Option Entry) (y more : Option Item) (rest : Option Sight) → SameFound x y → Says (hides n f) more → Stood l withs used n more rest → Stood l withs used n (else_item y more) (else_sight (seen_as n f x) rest)
+stood_by l withs used n f None None more rest h g s = stood_past l withs used n (hides n f) rest more g s
+stood_by l withs used n f None (Some i) more rest h g s = absurd h
+stood_by l withs used n f (Some e) None more rest h g s = absurd h
+stood_by l withs used n f (Some e) (Some i) more rest h g s =
     let P : Bool → Type 0 = λ b. StandsFor i (if b then One (Declared e.spot) else Missing) in
     elim (nat_lt e.number f.ended) as P [ true ↦ h.1 | false ↦ tt ]
 
 stood : (l : List LibraryUnit) (withs used : List ℕ) (n : ℕ) (fs : List Frame) (os : List Open) → AllFrames fs os → Stood l withs used n (last_declared n os) (innermost n fs)
-stood l withs used n [] [] a = inr refl
+stood l withs used n [] [] a = refl
 stood l withs used n [] (o ∷ os) a = absurd a
 stood l withs used n (f ∷ fs) [] a = absurd a
-stood l withs used n (f ∷ fs) (o ∷ os) a = stood_by l withs used n f (entry_of n f.entries) (item_named n o.items) (last_declared n os) (innermost n fs) (same_found n f.entries o.items a.1) (stood l withs used n fs os a.2)
+stood l withs used n (f ∷ fs) (o ∷ os) a = stood_by l withs used n f (entry_of n f.entries) (item_named n o.items) (last_declared n os) (innermost n fs) (same_found n f.entries o.items a.1) (hidden_says n f.owner f.hidden os a.3) (stood l withs used n fs os a.2)
 
 all_frames : (file : ℕ) (s : Scopes) (os : List Open) → Matches file s os → AllFrames (frames s) os
 all_frames file s [] m = absurd m.1

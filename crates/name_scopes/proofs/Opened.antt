@@ -1,6 +1,7 @@
 -- The scopes of a state are those that the events open, with what the events declare in them.
-use Rattle.std.proofs.Common.{◌≡◌, refl, sym, ap, ◌∙◌, subst, ℕ, Bool, true, false, List, [], ◌∷◌, ◌++◌, length, Option, Some, None}
-use Rattle.std.specs.Prelude.{if◌then◌else◌, ◌==◌, slice_get}
+use Rattle.std.proofs.Common.{◌≡◌, refl, sym, ap, subst, ℕ, Bool, true, false, List, [], ◌∷◌, ◌++◌, length, Option, Some, None, arith}
+use Rattle.std.proofs.lemmas.Bool.Decides.{nat_tests}
+use Rattle.std.specs.Prelude.{if◌then◌else◌, ◌==◌, is_some, not, slice_get}
 use Rattle.name_library.specs.declared.events.Event.{Event}
 use Rattle.name_library.specs.declared.events.Event.TheVariants as event
 use Rattle.name_library.specs.declared.events.Ident.{Ident}
@@ -31,7 +32,7 @@ use Rattle.name_scopes.specs.declared.state.Late.{Late}
 use Rattle.name_scopes.specs.declared.state.Scopes.{Scopes}
 use Rattle.name_frames.specs.Entries.{body_entry, entry_of, with_body}
 use Rattle.name_frames.specs.Frames.{innermost, named_as, package_named}
-use Rattle.name_scopes.specs.Open.{IsAt, Item, Open, declare, declared_as, is_unit, item_added, item_named, item_of, new_open, nothing_open, open_after, open_step, opened, parameter_of, unit_of, with_item, without_innermost}
+use Rattle.name_scopes.specs.Open.{IsAt, Item, Open, declare, declared_as, is_unit, item_added, item_named, item_of, new_open, nothing_open, open_after, open_step, opened, parameter_of, unit_of, without_innermost}
 use Rattle.name_frames.specs.Profiles.{same_profile}
 use Rattle.name_frames.specs.Meaning.{member}
 use Rattle.name_scopes.specs.State.{all_ended, broken, closed, frames, linked, pushed, spot_in, start, with_name}
@@ -52,19 +53,35 @@ AllEntries [] (i ∷ is) = ⊥
 AllEntries (e ∷ es) [] = ⊥
 AllEntries (e ∷ es) (i ∷ is) = EntryIs e i × AllEntries es is
 
+abbrev pub NotNone : Option Item → Type 0
+NotNone None = ⊥
+NotNone (Some i) = Unit {0}
+
+abbrev pub items_of : List Open → List Item
+items_of [] = []
+items_of (o ∷ os) = o.items
+
+-- a subprogram whose scope hides its name is declared in the scope around
+abbrev pub IsAround : Owner → Bool → List Open → Type 0
+IsAround owner.Units b os = Unit {0}
+IsAround (owner.Package n p) b os = Unit {0}
+IsAround (owner.Subprogram n p q) true os = NotNone (item_named n (items_of os))
+IsAround (owner.Subprogram n p q) false os = Unit {0}
+IsAround owner.Block b os = Unit {0}
+
 abbrev pub AllFrames : List Frame → List Open → Type 0
 AllFrames [] [] = Unit {0}
 AllFrames [] (o ∷ os) = ⊥
 AllFrames (f ∷ fs) [] = ⊥
-AllFrames (f ∷ fs) (o ∷ os) = (unit_owned f.owner ≡ o.unit) × AllEntries f.entries o.items × AllFrames fs os
+AllFrames (f ∷ fs) (o ∷ os) = (unit_owned f.owner ≡ o.unit) × AllEntries f.entries o.items × AllFrames fs os × IsAround f.owner f.hidden os
 
-abbrev pub Scope_is : Owner → List Entry → List Frame → List Open → Type 0
-Scope_is w es fs [] = ⊥
-Scope_is w es fs (o ∷ os) = (unit_owned w ≡ o.unit) × AllEntries es o.items × AllFrames fs os
+abbrev pub Scope_is : Owner → Bool → List Entry → List Frame → List Open → Type 0
+Scope_is w h es fs [] = ⊥
+Scope_is w h es fs (o ∷ os) = (unit_owned w ≡ o.unit) × AllEntries es o.items × AllFrames fs os × IsAround w h os
 
 -- the scopes of a state are these
 abbrev pub Matches : ℕ → Scopes → List Open → Type 0
-Matches file s os = (s.findings.file ≡ file) × Scope_is s.top.owner s.top.entries s.outer os
+Matches file s os = (s.findings.file ≡ file) × Scope_is s.top.owner s.top.hidden s.top.entries s.outer os
 
 -- ---- the declarations of one scope
 
@@ -98,6 +115,15 @@ with_its_body n k (e ∷ es) (i ∷ is) m =
     let P : Bool → Type 0 = λ b. AllEntries (if b then body_entry k e ∷ es else e ∷ with_body n k es) (i ∷ is) in
     elim (e.name == n) as P [ true ↦ m | false ↦ (m.0, with_its_body n k es is m.1) ]
 
+same : (n : ℕ) → (n == n) ≡ true
+same n = grind (arith, nat_tests)
+
+added_found : (is : List Item) (i : Item) → NotNone (item_named i.name (is ++ i ∷ []))
+added_found [] i = let P : Bool → Type 0 = λ b. NotNone (if b then Some i else None) in subst P (sym (same i.name)) tt
+added_found (j ∷ is) i =
+    let P : Bool → Type 0 = λ b. NotNone (if b then Some j else item_named i.name (is ++ i ∷ [])) in
+    elim (j.name == i.name) as P [ true ↦ tt | false ↦ added_found is i ]
+
 -- ---- declarations
 
 abbrev new_entry : Ident → Spot → Sort → Scopes → Entry
@@ -107,7 +133,7 @@ entered_is : (file : ℕ) (i : Ident) (p : Spot) (t : Sort) (s : Scopes) (j : It
 entered_is file i p t s j o os (Some e) (Some k) f n h m = m
 entered_is file i p t s j o os (Some e) None f n h m = absurd f
 entered_is file i p t s j o os None (Some k) f n h m = absurd f
-entered_is file i p t s j o os None None f n h m = (m.0, (m.1.0, one_more s.top.entries o.items (new_entry i p t s) j m.1.1 (n, h), m.1.2))
+entered_is file i p t s j o os None None f n h m = (m.0, (m.1.0, one_more s.top.entries o.items (new_entry i p t s) j m.1.1 (n, h), m.1.2, m.1.3))
 
 pub enter_is : (file : ℕ) (i : Ident) (p : Spot) (t : Sort) (s : Scopes) (j : Item) (os : List Open) → i.name ≡ j.name → IsAt j.place p → Matches file s os → Matches file (steps.enter i p t s) (declare j os)
 enter_is file i p t s j [] n h m = absurd m.1
@@ -122,9 +148,9 @@ spot_is file s i h = ap (λ (f : ℕ). spot_of f i) h
 own_is : (file : ℕ) (i : Ident) (t : Sort) (s : Scopes) (os : List Open) → Matches file s os → Matches file (steps.enter i (spot_in s i.at) t s) (declare (item_of file i) os)
 own_is file i t s os m = enter_is file i (spot_in s i.at) t s (item_of file i) os refl (spot_is file s i m.0) m
 
-push_is : (file : ℕ) (w : Owner) (p : Option ℕ) (s : Scopes) (os : List Open) → Matches file s os → Matches file (pushed w p s) (new_open (unit_owned w) ∷ os)
-push_is file w p s [] m = absurd m.1
-push_is file w p s (o ∷ os) m = (m.0, (refl, tt, m.1))
+push_is : (file : ℕ) (w : Owner) (p : Option ℕ) (s : Scopes) (os : List Open) → IsAround w (not (is_some p)) os → Matches file s os → Matches file (pushed w p s) (new_open (unit_owned w) ∷ os)
+push_is file w p s [] h m = absurd m.1
+push_is file w p s (o ∷ os) h m = (m.0, (refl, tt, m.1, h))
 
 parameter_is : (file : ℕ) (i : Ident) (s : Scopes) (d : Option Formal) (os : List Open) → Matches file s os → Matches file (steps.parameter i s d) (declare (parameter_of i) os)
 parameter_is file i s (Some d) os m = enter_is file i d.spot sort.Plain (steps.begun i.name (spot_in s i.at) (linked i.at (Declared d.spot) s)) (parameter_of i) os refl tt m
@@ -144,7 +170,7 @@ declares_is file kind.Component i s os m = own_is file i sort.Plain s os m
 -- ---- scopes that open
 
 package_is : (file : ℕ) (i : Ident) (s : Scopes) (os : List Open) → Matches file s os → Matches file (steps.package_opens i s) (new_open (Some i.name) ∷ declare (item_of file i) os)
-package_is file i s os m = push_is file (owner.Package i.name (spot_in s i.at)) None (all_ended (steps.enter i (spot_in s i.at) sort.Package s)) (declare (item_of file i) os) (own_is file i sort.Package s os m)
+package_is file i s os m = push_is file (owner.Package i.name (spot_in s i.at)) None (all_ended (steps.enter i (spot_in s i.at) sort.Package s)) (declare (item_of file i) os) tt (own_is file i sort.Package s os m)
 
 body_is : (file : ℕ) (i : Ident) (s : Scopes) (w : Owner) (os : List Open) → Matches file s os → Matches file (steps.body_opens i s (package_named i.name w)) (if is_unit i.name (unit_owned w) then os else (new_open (Some i.name) ∷ declare (item_of file i) os))
 body_is file i s owner.Units os m = package_is file i s os m
@@ -163,38 +189,38 @@ package_body_is file i s os m =
     let P : Option ℕ → Type 0 = λ u. Matches file (steps.body_opens i s (package_named i.name s.top.owner)) (if is_unit i.name u then os else (new_open (Some i.name) ∷ declare (item_of file i) os)) in
     subst P (unit_is file s os m) (body_is file i s s.top.owner os m)
 
-begins_is : (file : ℕ) (i : Ident) (s : Scopes) (os : List Open) → Matches file s os → Matches file (steps.begins i s) (new_open None ∷ os)
-begins_is file i s os m = push_is file (owner.Subprogram i.name (spot_in s i.at) (spot_in s i.at)) None s os m
+begins_is : (file : ℕ) (i : Ident) (s : Scopes) (os : List Open) → NotNone (item_named i.name (items_of os)) → Matches file s os → Matches file (steps.begins i s) (new_open None ∷ os)
+begins_is file i s os h m = push_is file (owner.Subprogram i.name (spot_in s i.at) (spot_in s i.at)) None s os h m
 
 completes_is : (file : ℕ) (i : Ident) (first : Spot) (k : ℕ) (s : Scopes) (os : List Open) → Matches file s os → Matches file (steps.completes i first k s) (new_open None ∷ os)
 completes_is file i first k s [] m = absurd m.1
-completes_is file i first k s (o ∷ os) m = (m.0, (refl, tt, (m.1.0, with_its_body i.name k s.top.entries o.items m.1.1, m.1.2)))
+completes_is file i first k s (o ∷ os) m = (m.0, (refl, tt, (m.1.0, with_its_body i.name k s.top.entries o.items m.1.1, m.1.2, m.1.3), tt))
 
-body_for_is : (file : ℕ) (i : Ident) (first : Spot) (s : Scopes) (t : Sort) (os : List Open) → Matches file s os → Matches file (steps.body_for i first s t) (new_open None ∷ os)
-body_for_is file i first s (sort.Subprogram false k) os m = completes_is file i first k s os m
-body_for_is file i first s (sort.Subprogram true k) os m = begins_is file i (broken (steps.clash (sort.Subprogram true k) (sort.Subprogram false 0)) i.at s) os m
-body_for_is file i first s sort.Plain os m = begins_is file i (broken (steps.clash sort.Plain (sort.Subprogram false 0)) i.at s) os m
-body_for_is file i first s sort.Literal os m = begins_is file i (broken (steps.clash sort.Literal (sort.Subprogram false 0)) i.at s) os m
-body_for_is file i first s sort.Package os m = begins_is file i (broken (steps.clash sort.Package (sort.Subprogram false 0)) i.at s) os m
+body_for_is : (file : ℕ) (i : Ident) (first : Spot) (s : Scopes) (t : Sort) (os : List Open) → NotNone (item_named i.name (items_of os)) → Matches file s os → Matches file (steps.body_for i first s t) (new_open None ∷ os)
+body_for_is file i first s (sort.Subprogram false k) os h m = completes_is file i first k s os m
+body_for_is file i first s (sort.Subprogram true k) os h m = begins_is file i (broken (steps.clash (sort.Subprogram true k) (sort.Subprogram false 0)) i.at s) os h m
+body_for_is file i first s sort.Plain os h m = begins_is file i (broken (steps.clash sort.Plain (sort.Subprogram false 0)) i.at s) os h m
+body_for_is file i first s sort.Literal os h m = begins_is file i (broken (steps.clash sort.Literal (sort.Subprogram false 0)) i.at s) os h m
+body_for_is file i first s sort.Package os h m = begins_is file i (broken (steps.clash sort.Package (sort.Subprogram false 0)) i.at s) os h m
 
-subprogram_by : (file : ℕ) (i : Ident) (b : Bool) (s : Scopes) (o : Open) (os : List Open) (x : Option Entry) (y : Option Item) → SameFound x y → Matches file s (o ∷ os) → Matches file (steps.subprogram_opens i b s x) (new_open None ∷ record { unit = o.unit; items = item_added (item_of file i) o.items y } ∷ os)
-subprogram_by file i b s o os None None f m = (m.0, (refl, tt, (m.1.0, one_more s.top.entries o.items (new_entry i (spot_in s i.at) (sort.Subprogram b (length s.profiles)) s) (item_of file i) m.1.1 (refl, spot_is file s i m.0), m.1.2)))
-subprogram_by file i b s o os None (Some j) f m = absurd f
-subprogram_by file i b s o os (Some e) None f m = absurd f
-subprogram_by file i true s o os (Some e) (Some j) f m = body_for_is file i e.spot s e.sort (o ∷ os) m
-subprogram_by file i false s o os (Some e) (Some j) f m = begins_is file i (broken (steps.clash e.sort (sort.Subprogram false 0)) i.at s) (o ∷ os) m
+subprogram_by : (file : ℕ) (i : Ident) (b : Bool) (s : Scopes) (o : Open) (os : List Open) (x : Option Entry) (y : Option Item) → item_named i.name o.items ≡ y → SameFound x y → Matches file s (o ∷ os) → Matches file (steps.subprogram_opens i b s x) (new_open None ∷ record { unit = o.unit; items = item_added (item_of file i) o.items y } ∷ os)
+subprogram_by file i b s o os None None e f m = (m.0, (refl, tt, (m.1.0, one_more s.top.entries o.items (new_entry i (spot_in s i.at) (sort.Subprogram b (length s.profiles)) s) (item_of file i) m.1.1 (refl, spot_is file s i m.0), m.1.2, m.1.3), added_found o.items (item_of file i)))
+subprogram_by file i b s o os None (Some j) e f m = absurd f
+subprogram_by file i b s o os (Some d) None e f m = absurd f
+subprogram_by file i true s o os (Some d) (Some j) e f m = body_for_is file i d.spot s d.sort (o ∷ os) (subst NotNone (sym e) tt) m
+subprogram_by file i false s o os (Some d) (Some j) e f m = begins_is file i (broken (steps.clash d.sort (sort.Subprogram false 0)) i.at s) (o ∷ os) (subst NotNone (sym e) tt) m
 
 subprogram_is : (file : ℕ) (i : Ident) (b : Bool) (s : Scopes) (os : List Open) → Matches file s os → Matches file (steps.subprogram_opens i b s (entry_of i.name s.top.entries)) (new_open None ∷ declare (item_of file i) os)
 subprogram_is file i b s [] m = absurd m.1
-subprogram_is file i b s (o ∷ os) m = subprogram_by file i b s o os (entry_of i.name s.top.entries) (item_named i.name o.items) (same_found i.name s.top.entries o.items m.1.1) m
+subprogram_is file i b s (o ∷ os) m = subprogram_by file i b s o os (entry_of i.name s.top.entries) (item_named i.name o.items) refl (same_found i.name s.top.entries o.items m.1.1) m
 
 opens_is : (file : ℕ) (o : Scope) (s : Scopes) (os : List Open) → Matches file s os → Matches file (steps.opens o s) (opened file o os)
 opens_is file (scope.Package i) s os m = package_is file i s os m
 opens_is file (scope.PackageBody i) s os m = package_body_is file i s os m
 opens_is file (scope.Subprogram i b) s os m = subprogram_is file i b s os m
-opens_is file scope.Record s os m = push_is file owner.Block None s os m
-opens_is file scope.Loop s os m = push_is file owner.Block None s os m
-opens_is file scope.Quantified s os m = push_is file owner.Block None s os m
+opens_is file scope.Record s os m = push_is file owner.Block None s os tt m
+opens_is file scope.Loop s os m = push_is file owner.Block None s os tt m
+opens_is file scope.Quantified s os m = push_is file owner.Block None s os tt m
 
 closed_is : (file : ℕ) (s : Scopes) (fs : List Frame) (o : Open) (os : List Open) → Matches file s (o ∷ os) → AllFrames fs os → Matches file (closed s fs) (without_innermost (o ∷ os))
 closed_is file s [] o [] m a = m
@@ -239,8 +265,15 @@ compared_is file own s (Some p) os m =
     let P : Bool → Type 0 = λ b. Matches file (if b then s else broken SpecMismatch own.at s) os in
     elim (same_profile p s.top.profile) as P [ true ↦ m | false ↦ m ]
 
+shown : (w : Owner) (os : List Open) → IsAround w false os
+shown owner.Units os = tt
+shown (owner.Package n p) os = tt
+shown (owner.Subprogram n p q) os = tt
+shown owner.Block os = tt
+
 profile_is : (file : ℕ) (s : Scopes) (w : Owner) (k : Option ℕ) (os : List Open) → Matches file s os → Matches file (steps.profile_ended s w k) os
-profile_is file s (owner.Subprogram n p q) None os m = m
+profile_is file s (owner.Subprogram n p q) None [] m = absurd m.1
+profile_is file s (owner.Subprogram n p q) None (o ∷ os) m = (m.0, (m.1.0, m.1.1, m.1.2, shown s.top.owner os))
 profile_is file s (owner.Subprogram n p q) (Some k) os m = compared_is file q s (slice_get s.profiles k) os m
 profile_is file s owner.Units k os m = m
 profile_is file s (owner.Package n p) k os m = m
@@ -299,4 +332,4 @@ after_is file l s [] os m = m
 after_is file l s (e ∷ es) os m = after_is file l (steps.step l s e) es (open_step file os e) (step_is file l s e os m)
 
 pub start_is : (file : ℕ) → Matches file (start file) nothing_open
-start_is file = (refl, (refl, tt, tt))
+start_is file = (refl, (refl, tt, tt, tt))

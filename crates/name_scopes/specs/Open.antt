@@ -1,5 +1,5 @@
 -- What the events of a file declare in the scopes that are open: opening, closing and declaring alone, with no look-up.
-use Rattle.std.specs.Prelude.{◌≡◌, ℕ, Bool, true, false, ◌==◌, ◌++◌, List, [], ◌∷◌, find, Option, Some, None, fold, if◌then◌else◌}
+use Rattle.std.specs.Prelude.{◌≡◌, ℕ, Bool, false, ◌==◌, ◌++◌, List, [], ◌∷◌, find, Option, Some, None, fold, if◌then◌else◌}
 use Rattle.name_library.specs.declared.events.Event.{Event}
 use Rattle.name_library.specs.declared.events.Event.TheVariants as event
 use Rattle.name_library.specs.declared.events.Ident.{Ident}

@@ -1,6 +1,5 @@
 -- Small changes of what is visible and of what is found.
-use Rattle.std.specs.Prelude.{ℕ, ◌++◌, length, List, [], ◌∷◌, Option, None, Some, if◌then◌else◌}
-use Rattle.name_library.specs.declared.events.Ident.{Ident}
+use Rattle.std.specs.Prelude.{ℕ, ◌++◌, length, List, [], ◌∷◌, Option, None, if◌then◌else◌}
 use Rattle.name_library.specs.declared.links.Link.{Link}
 use Rattle.name_library.specs.declared.links.NameFault.{NameFault}
 use Rattle.name_library.specs.declared.links.Spot.{Spot}

@@ -1,5 +1,5 @@
 -- What each event does to what is visible, which links it makes, and which rules it breaks.
-use Rattle.std.specs.Prelude.{ℕ, Bool, true, false, ◌&&◌, ◌==◌, ◌++◌, length, List, [], ◌∷◌, slice_get, Option, Some, None, fold, if◌then◌else◌}
+use Rattle.std.specs.Prelude.{ℕ, Bool, true, false, ◌==◌, ◌++◌, length, List, [], ◌∷◌, slice_get, Option, Some, None, fold, if◌then◌else◌}
 use Rattle.name_library.specs.declared.events.Event.{Event}
 use Rattle.name_library.specs.declared.events.Event.TheVariants as event
 use Rattle.name_library.specs.declared.events.Ident.{Ident}
@@ -21,7 +21,6 @@ use Rattle.name_library.specs.Library.{contains, declaration_of, is_part, packag
 use Rattle.name_frames.specs.declared.entries.Entry.{Entry}
 use Rattle.name_frames.specs.declared.entries.Sort.{Sort}
 use Rattle.name_frames.specs.declared.entries.Sort.TheVariants as sort
-use Rattle.name_frames.specs.declared.frames.Frame.{Frame}
 use Rattle.name_frames.specs.declared.frames.Owner.{Owner}
 use Rattle.name_frames.specs.declared.frames.Owner.TheVariants as owner
 use Rattle.name_frames.specs.declared.frames.Sight.{Sight}

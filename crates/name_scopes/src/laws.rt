@@ -40,8 +40,8 @@ pub fn names_get_links()
 {}
 
 /// After any events of a file, a name stands for the last declaration of it whose scope is open, if the name stands for anything; and
-/// in a body's file so does a name of the declaration's file. One that no open scope declares is left to Standard, with and use
-/// clauses, or stands for nothing.
+/// so in a body's file, where the scopes of the declaration's file are open. A name that no open scope declares is left to Standard,
+/// with clauses and use clauses.
 pub fn last_declaration_counts()
     ensures in_file { (l : List LibraryUnit) (file : ℕ) (es : List Event) (n : ℕ) (i : Item) → last_declared n (open_after file nothing_open es) ≡ Some i → StandsFor i (meaning l (after l (start file) es) n) }
     ensures in_body { (l : List LibraryUnit) (first file : ℕ) (es more : List Event) (n : ℕ) (i : Item) → last_declared n (open_after file (open_after first nothing_open es) more) ≡ Some i → StandsFor i (meaning l (after l (carried file (after l (start first) es)) more) n) }
