@@ -1,5 +1,5 @@
 -- All broken rules of names of a program, one line a demand, and its answer: the first of them, or all links.
-use Rattle.std.specs.Prelude.{◌≡◌, ℕ, Bool, true, false, not, ◌&&◌, ◌||◌, ◌==◌, ◌-◌, ◌++◌, ◌⊎◌, nat_lt, List, [], ◌∷◌, slice_get, Option, Some, None, is_some, unwrap_or, if◌then◌else◌}
+use Rattle.std.specs.Prelude.{◌≡◌, ℕ, Bool, true, false, not, ◌&&◌, ◌||◌, ◌==◌, ◌++◌, ◌⊎◌, nat_lt, List, [], ◌∷◌, slice_get, Option, Some, None, is_some, unwrap_or, if◌then◌else◌}
 use Rattle.name_library.specs.declared.events.Event.{Event}
 use Rattle.name_library.specs.declared.events.Ident.{Ident}
 use Rattle.name_library.specs.declared.links.Fault.{Fault}

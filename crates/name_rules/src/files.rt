@@ -5,10 +5,10 @@ ghost use Rattle.std.specs.Option.{option_copied};
 ghost use Rattle.name_rules.specs.Faults.{all_files, all_usages, bodies, carried_state, declared_state, end_faults, events_of, file_faults, has_subprogram, is_subprogram, lacks_body, opening, state_of, without_body};
 
 use crate::demands::unless;
+use name_frames::{Entry, Sort};
 use name_library::{
     Event, Fault, Library, LibraryUnit, NameFault, Part, Starved, Usage, own_declaration,
 };
-use name_frames::{Entry, Sort};
 use name_scopes::Scopes;
 use sqlite_items::{Items, at};
 use std::alloc::Global;
