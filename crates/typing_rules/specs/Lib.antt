@@ -1,0 +1,13 @@
+pub mod Parts
+pub mod Lookups
+pub mod Fits
+pub mod Values
+pub mod Calls
+pub mod Names
+pub mod Attributes
+pub mod Ranges
+pub mod Aggregates
+pub mod Conditions
+pub mod Kinds
+pub mod Forms
+pub mod Reading
