@@ -1,3 +1,4 @@
 pub mod Firsts
 pub mod Meanings
 pub mod OperatorFirsts
+pub mod Places

@@ -39,7 +39,7 @@ found_before from at k [] d r h l = absurd (omega arith)
 found_before from at zero (i ∷ is) d r h l = sym (none_before i.at at (i ∷ is) (omega arith, r.1) l)
 found_before from at (suc k) (i ∷ is) d r h l = ap (λ (n : Entity). if eqb i.at at then i.entity else n) (found_before (suc i.at) at k is d r.1 (omega arith) l)
 
-at_least : (from k : ℕ) (is : List Meaning) (d : Meaning) → AreRising from is → k < length is → from ≤ (get_or is k d).at
+pub at_least : (from k : ℕ) (is : List Meaning) (d : Meaning) → AreRising from is → k < length is → from ≤ (get_or is k d).at
 at_least from k [] d r h = absurd (omega arith)
 at_least from zero (i ∷ is) d r h = r.0
 at_least from (suc k) (i ∷ is) d r h = let more : suc i.at ≤ (get_or is k d).at = at_least (suc i.at) k is d r.1 (omega arith) in omega arith

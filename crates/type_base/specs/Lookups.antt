@@ -1,5 +1,5 @@
 -- What stands in a world.
-use Rattle.std.specs.Prelude.{ℕ, zero, suc, ◌≤◌, ◌==◌, nat_lt, List, [], ◌∷◌, Option, Some, None, slice_get, if◌then◌else◌}
+use Rattle.std.specs.Prelude.{ℕ, zero, suc, Bool, false, ◌≤◌, ◌==◌, nat_lt, List, [], ◌∷◌, Option, Some, None, slice_get, if◌then◌else◌}
 use Rattle.ada_values.specs.declared.values.Value.{Value}
 use Rattle.name_library.specs.declared.links.Spot.{Spot}
 use Rattle.type_base.specs.declared.entities.Entity.{Entity}
@@ -50,6 +50,19 @@ meaning_in (m ∷ ms) at = if m.at == at then m.entity else meaning_in ms at
 abbrev pub AreRising : ℕ → List Meaning → Type 0
 AreRising from [] = Unit {0}
 AreRising from (m ∷ ms) = (from ≤ m.at) × AreRising (suc m.at) ms
+
+-- how many meanings stand before a byte
+abbrev pub place_in : List Meaning → ℕ → ℕ
+place_in [] at = 0
+place_in (m ∷ ms) at = if nat_lt m.at at then suc (place_in ms at) else 0
+
+abbrev pub stands_at : Option Meaning → ℕ → Bool
+stands_at (Some m) at = m.at == at
+stands_at None at = false
+
+-- whether one stands at a byte, where so many stand before it
+abbrev pub is_there : List Meaning → ℕ → ℕ → Bool
+is_there ms place at = stands_at (slice_get ms place) at
 
 -- the meanings of a file in the order of their places, with one more, which takes the place of another at its byte
 abbrev pub with_meaning : List Meaning → ℕ → Entity → List Meaning

@@ -1,11 +1,11 @@
 //! What names stand for.
 
-ghost use Rattle.std.specs.Prelude.{◌≡◌, []};
+ghost use Rattle.std.specs.Prelude.{◌≡◌, [], OnOk};
 ghost use Rattle.std.specs.Prelude.{slice_get};
-ghost use Rattle.type_base.specs.Lookups.{AreRising, meaning_in, meaning_of};
+ghost use Rattle.type_base.specs.Lookups.{AreRising, is_there, meaning_in, meaning_of, place_in, with_in_file, with_meaning};
 
+use crate::Starved;
 use name_library::Spot;
-use sqlite_items::Items;
 use std::alloc::Global;
 use std::marker::Model;
 use typed_units::Object;
@@ -50,7 +50,7 @@ pub struct Meaning {
 
 /// What the declaring identifiers of a file stand for, in the order of the text. Contracts see the list of these.
 pub struct FileMeanings {
-    items: Items<Meaning>,
+    items: Vec<Meaning>,
 }
 
 // Written out, so that crates that let these go need no proof of their own.
@@ -68,14 +68,14 @@ impl Model for FileMeanings {
 
     ghost Value = { List Meaning };
 
-    ghost view = { λ f. f.items };
+    ghost view = { λ f. f.items.items };
 
-    ghost invariant = { λ f. AreRising 0 f.items };
+    ghost invariant = { λ f. AreRising 0 f.items.items };
 }
 
 /// What the declaring identifiers of a program stand for, file by file. Contracts see a list of lists.
 pub struct EntityTable {
-    files: Items<FileMeanings>,
+    files: Vec<FileMeanings>,
 }
 
 // Written out, so that crates that let these go need no proof of their own.
@@ -92,7 +92,7 @@ impl Model for EntityTable {
 
     ghost Value = { List (List Meaning) };
 
-    ghost view = { λ t. t.files };
+    ghost view = { λ t. t.files.items };
 }
 
 impl FileMeanings {
@@ -101,7 +101,7 @@ impl FileMeanings {
         ensures { result ≡ [] }
     {
         FileMeanings {
-            items: Items::new(alloc),
+            items: Vec::new(alloc),
         }
     }
 
@@ -126,13 +126,58 @@ impl FileMeanings {
     }
 }
 
+/// How many meanings stand before a byte. In constant time where all of them do.
+#[tactic(auto, using(crate::proofs::Places::after, crate::proofs::Places::before, crate::proofs::Places::most))]
+fn place_in(items: &[Meaning], at: u32) -> usize
+    requires { AreRising 0 items.now }
+    ensures { result ≡ place_in items.now at }
+{
+    let mut place = items.len();
+    while 0 < place {
+        if items[place - 1].at < at {
+            return place;
+        }
+        place -= 1;
+    }
+    0
+}
+
+/// Whether a meaning stands at a byte, where so many stand before it.
+fn is_there(items: &[Meaning], place: usize, at: u32) -> bool
+    ensures { result ≡ is_there items.now place at }
+{
+    match items.get(place) {
+        Some(meaning) => meaning.at == at,
+        None => false,
+    }
+}
+
+impl FileMeanings {
+    /// Adds a meaning, which takes the place of another at its byte. In constant time where it stands after all others.
+    #[tactic(auto, using(crate::proofs::Places::inserted, crate::proofs::Places::replaced, crate::proofs::Places::there, crate::proofs::Places::most, crate::proofs::Places::rising_inserted, crate::proofs::Places::rising_replaced))]
+    pub fn put(&mut self, at: u32, entity: Entity) -> Result<(), Starved>
+        ensures { OnOk result (self.new ≡ with_meaning self.old at entity) }
+    {
+        let place = place_in(self.items.as_slice(), at);
+        let meaning = Meaning { at, entity };
+        if is_there(self.items.as_slice(), place, at) {
+            self.items[place] = meaning;
+            return Ok(());
+        }
+        match self.items.insert(place, meaning) {
+            Ok(()) => Ok(()),
+            Err(_) => Err(Starved),
+        }
+    }
+}
+
 impl EntityTable {
     /// A table without files.
     pub fn new(alloc: Global) -> EntityTable
         ensures { result ≡ [] }
     {
         EntityTable {
-            files: Items::new(alloc),
+            files: Vec::new(alloc),
         }
     }
 
@@ -144,5 +189,17 @@ impl EntityTable {
             Some(file) => file.get(spot.at),
             None => Entity::Unknown,
         }
+    }
+
+    /// Adds what the declaring identifier at a place stands for, in place of what it stood for before.
+    #[tactic(auto, using(crate::proofs::Places::padded, crate::proofs::Places::within))]
+    pub fn put(&mut self, alloc: Global, spot: Spot, entity: Entity) -> Result<(), Starved>
+        ensures { OnOk result (self.new ≡ with_in_file self.old spot.file spot.at entity) }
+    {
+        let file = spot.file as usize;
+        while self.files.len() <= file {
+            self.files.push(FileMeanings::new(alloc))?;
+        }
+        self.files[file].put(spot.at, entity)
     }
 }

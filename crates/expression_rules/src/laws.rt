@@ -1,0 +1,16 @@
+//! What accepted operators obey.
+
+ghost use Rattle.ada_syntax.specs.declared.expressions.UnaryOperator.{UnaryOperator};
+ghost use Rattle.ada_values.specs.declared.place.Place.{Place};
+ghost use Rattle.type_base.specs.declared.seen.Family.{Family};
+ghost use Rattle.type_base.specs.declared.seen.Seen.{Seen};
+ghost use Rattle.type_base.specs.declared.seen.Want.{Want};
+ghost use Rattle.type_base.specs.declared.world.World.{World};
+ghost use Rattle.type_base.specs.Operators.{joined, unary_of};
+ghost use Rattle.expression_rules.specs.Rules.{Gives, GivesOne, Is, Kind};
+
+/// An operator that is accepted with a type has operands as its rule demands, and gives this type by the rule.
+pub fn accepted_have_types()
+    ensures binary { (w : World) (v : Want) (p o pa pb : Place) (f : Family) (x y : Seen) (k : Kind) → Is (joined w v p o pa pb f x y) k → Gives w v x y f k }
+    ensures unary { (w : World) (p q : Place) (o : UnaryOperator) (x : Seen) (k : Kind) → Is (unary_of w p q o x) k → GivesOne w x o k }
+{}
