@@ -12,5 +12,5 @@ pub use families::{demand_of, family_of, rule_of};
 pub use laws::accepted_have_types;
 pub use operators::{Places, joined, unary_of};
 pub use results::moved;
-pub use statics::{number_in, static_result, static_truth, truth_in, universal_result};
+pub use statics::{number_in, static_result, static_truth, truth_at, truth_in, universal_result};
 pub use type_base::Starved;
