@@ -28,7 +28,6 @@ use Rattle.type_base.specs.declared.seen.Family.TheVariants as family
 use Rattle.type_base.specs.declared.seen.Seen.{Seen}
 use Rattle.type_base.specs.declared.seen.Seen.TheVariants.{Refused, Unknown, Number, Typed}
 use Rattle.type_base.specs.declared.seen.Want.{Want}
-use Rattle.type_base.specs.declared.world.Discrete.{Discrete}
 use Rattle.type_base.specs.declared.world.Form.{Form}
 use Rattle.type_base.specs.declared.world.Form.TheVariants as form
 use Rattle.type_base.specs.declared.world.World.{World}
@@ -38,7 +37,7 @@ use Rattle.type_base.specs.Operators.{demand_of, exponent, joined, operands, pow
 use Rattle.type_base.specs.Results.{arithmetic, arithmetic_of, changed, changed_of, comparison, comparison_of, computed, connection, connection_of, kept, kept_of, number_in, opposite, opposite_of, settled, truth_in, typed_result, universal, universal_result}
 use Rattle.type_base.specs.Standard.{boolean, integer_base}
 use Rattle.expression_rules.specs.Rules as rule
-use Rattle.expression_rules.specs.Rules.{AreOne, Common, Gives, GivesOne, Is, IsAs, IsIntegerType, Kind, Meets, Raised, TypeIs, of}
+use Rattle.expression_rules.specs.Rules.{AreOne, Common, Gives, GivesOne, Is, IsAs, IsIntegerType, Kind, Raised, TypeIs, of}
 
 -- ---- one operand: where it is accepted, it is unchanged and as demanded
 

@@ -28,7 +28,6 @@ use Rattle.type_base.specs.declared.seen.Family.TheVariants as family
 use Rattle.type_base.specs.declared.seen.Seen.{Seen}
 use Rattle.type_base.specs.declared.seen.Seen.TheVariants.{Refused, Unknown, Number, Typed}
 use Rattle.type_base.specs.declared.seen.Want.{Want}
-use Rattle.type_base.specs.declared.seen.Want.TheVariants as want
 use Rattle.type_base.specs.declared.world.Discrete.{Discrete}
 use Rattle.type_base.specs.declared.world.Discrete.TheVariants as discrete
 use Rattle.type_base.specs.declared.world.Form.{Form}

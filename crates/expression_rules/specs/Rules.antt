@@ -1,5 +1,5 @@
 -- What operators demand of their operands, in the words of the rules, and what type they give. -- Ada RM 4.5
-use Rattle.std.specs.Prelude.{◌≡◌, ℕ, true, Option, Some}
+use Rattle.std.specs.Prelude.{◌≡◌, ℕ, true, Some}
 use Rattle.ada_syntax.specs.declared.expressions.UnaryOperator.{UnaryOperator}
 use Rattle.ada_syntax.specs.declared.expressions.UnaryOperator.TheVariants as unary'
 use Rattle.ada_values.specs.declared.scalars.Op.{Op}
