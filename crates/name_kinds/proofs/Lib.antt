@@ -1,1 +1,1 @@
-pub mod Hints
+pub mod Named

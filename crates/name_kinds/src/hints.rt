@@ -62,7 +62,7 @@ fn hint_among(mut components: &[Component], name: u32) -> Hint
 }
 
 /// What a name tells with a selector of this name that is no entity's: a component of a record.
-#[tactic(auto, using(crate::proofs::Hints::named))]
+#[tactic(auto, using(crate::proofs::Named::named))]
 pub fn component_hint(world: &World, name: u32, hint: Hint) -> Hint
     ensures { result ≡ component_hint world.now name hint }
 {
@@ -95,7 +95,7 @@ fn has_formals(world: &World, routine: Routine) -> bool
     }
 }
 
-#[tactic(auto, using(crate::proofs::Hints::called))]
+#[tactic(auto, using(crate::proofs::Named::called))]
 fn routine_hint(world: &World, routine: Option<Routine>) -> Hint
     ensures { result ≡ routine_hint world.now routine }
 {

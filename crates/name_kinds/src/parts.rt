@@ -3,7 +3,7 @@
 ghost use Rattle.std.specs.Prelude.{◌≡◌, drop, take};
 
 /// So many items from a number on, as far as there are any.
-#[tactic(auto, using(std::proofs::lemmas::List::drop_min, std::proofs::lemmas::List::take_min))]
+#[tactic(auto, using(crate::proofs::Named::cut))]
 pub fn part_of<T>(all: &[T], first: u32, count: u32) -> &[T]
     ensures { result.now ≡ take count (drop first all.now) }
 {

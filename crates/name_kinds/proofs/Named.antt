@@ -1,6 +1,7 @@
--- Hints of components and of calls.
-use Rattle.std.proofs.Common.{◌≡◌, refl, sym, ap, ◌∙◌, ℕ, zero, suc, Bool, true, false, ◌==◌, List, [], ◌∷◌, Option, Some, None}
-use Rattle.std.specs.Prelude.{if◌then◌else◌}
+-- Hints of components and of calls, and parts of lists.
+use Rattle.std.proofs.Common.{◌≡◌, refl, sym, ap, ◌∙◌, ℕ, zero, suc, ◌-◌, Bool, true, false, ◌==◌, List, [], ◌∷◌, length, take, drop, Option, Some, None}
+use Rattle.std.specs.Prelude.{if◌then◌else◌, min}
+use Rattle.std.proofs.lemmas.List.{drop_min, take_min, take_rest}
 use Rattle.type_base.specs.declared.world.Component.{Component}
 use Rattle.type_base.specs.declared.world.Formal.{Formal}
 use Rattle.type_base.specs.declared.world.World.{World}
@@ -39,3 +40,7 @@ named (c ∷ cs) m =
 pub called : (w : World) (k : ℕ) (fs : List Formal) → (if has_some fs then Value k else item_hint (array_at w k)) ≡ call_hint w (Some k) fs
 called w k [] = refl
 called w k (f ∷ fs) = refl
+
+-- a part of a list, as the code cuts it
+pub cut : {T : Type 0} (xs : List T) (f c : ℕ) (r : List T) → r ≡ take (length xs - min f (length xs)) (drop (min f (length xs)) xs) → take (min c (length r)) r ≡ take c (drop f xs)
+cut xs f c r e = take_min c r ∙ ap (λ (ys : List _). take c ys) (e ∙ take_rest xs (min f (length xs)) ∙ drop_min f xs)
