@@ -43,4 +43,4 @@ called w k (f ∷ fs) = refl
 
 -- a part of a list, as the code cuts it
 pub cut : {T : Type 0} (xs : List T) (f c : ℕ) (r : List T) → r ≡ take (length xs - min f (length xs)) (drop (min f (length xs)) xs) → take (min c (length r)) r ≡ take c (drop f xs)
-cut xs f c r e = take_min c r ∙ ap (λ (ys : List _). take c ys) (e ∙ take_rest xs (min f (length xs)) ∙ drop_min f xs)
+cut {T} xs f c r e = take_min c r ∙ ap (λ (ys : List T). take c ys) (e ∙ take_rest xs (min f (length xs)) ∙ drop_min f xs)
