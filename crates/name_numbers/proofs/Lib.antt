@@ -1,0 +1,6 @@
+mod Firsts
+mod Rising
+mod SoFar
+mod Starts
+mod Tables
+mod Walked

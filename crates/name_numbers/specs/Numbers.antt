@@ -1,5 +1,5 @@
 -- The numbers of names. Upper and lower case are one (Ada RM 2.3).
-use Rattle.std.specs.Prelude.{ℕ, suc, ◌+◌, ◌-◌, ◌≤◌, ◌==◌, nat_lt, List, [], ◌∷◌, ◌++◌, map, take, drop, length, slice_get, Option, Some, None, option_map, Result, Ok, Err, if◌then◌else◌}
+use Rattle.std.specs.Prelude.{ℕ, zero, suc, ◌+◌, ◌-◌, ◌≤◌, ◌==◌, nat_lt, List, [], ◌∷◌, ◌++◌, map, take, drop, length, Option, Some, None, Result, Ok, Err, if◌then◌else◌}
 use Rattle.std.specs.Str.{str_eq_ignore_ascii_case}
 use Rattle.ada_text.specs.declared.token.LexFault.{LexFault}
 use Rattle.ada_text.specs.declared.token.Span.{Span}
@@ -14,14 +14,24 @@ use Rattle.name_numbers.specs.declared.words.Word.{Word}
 -- the place of the first of the names that is this text
 abbrev pub number_of : List (List ℕ) → List ℕ → ℕ
 number_of [] text = 0
-number_of (name ∷ names) text = if str_eq_ignore_ascii_case name text then 0 else 1 + number_of names text
+number_of (name ∷ names) text = if str_eq_ignore_ascii_case text name then 0 else 1 + number_of names text
 
--- the names of package Standard, and then the words
+-- ---- the names that are known before any text is read
+
+unfoldable pub words : List (List ℕ × Word)
+words = map (λ w. (w.0.now, w.1)) WORDS
+
 unfoldable pub known_names : List (List ℕ)
-known_names = map (λ n. n.now) STANDARD_NAMES ++ map (λ w. w.0.now) WORDS
+known_names = map (λ n. n.now) STANDARD_NAMES ++ map (λ w. w.0) words
 
+abbrev pub word_at : List (List ℕ × Word) → ℕ → Option Word
+word_at [] n = None
+word_at (w ∷ ws) zero = Some w.1
+word_at (w ∷ ws) (suc n) = word_at ws n
+
+-- the numbers of the words follow those of package Standard
 unfoldable pub word_of : ℕ → Option Word
-word_of n = if nat_lt n (length STANDARD_NAMES) then None else option_map (λ w. w.1) (slice_get WORDS (n - length STANDARD_NAMES))
+word_of n = if nat_lt n (length STANDARD_NAMES) then None else word_at words (n - length STANDARD_NAMES)
 
 -- ---- the identifiers of a text
 

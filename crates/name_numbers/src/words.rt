@@ -1,7 +1,7 @@
 //! The names that are known before any text is read.
 
-ghost use Rattle.std.specs.Prelude.{◌≡◌};
-ghost use Rattle.name_numbers.specs.Numbers.{word_of};
+ghost use Rattle.std.specs.Prelude.{◌≡◌, map};
+ghost use Rattle.name_numbers.specs.Numbers.{word_at, word_of};
 
 /// The names of package Standard (Ada RM A.1), in lower case: the numbers from 0 to 28. The first seven are in the profile.
 pub static STANDARD_NAMES: [&[u8]; 29] = [
@@ -103,14 +103,26 @@ pub static WORDS: [(&[u8], Word); 27] = [
     (b"in_out", Word::InOut),
 ];
 
+/// The word at a place of a table.
+fn word_at(table: &[(&[u8], Word)], at: usize) -> Option<Word>
+    ensures { result ≡ word_at (map (λ w. (w.0.now, w.1)) table.now) at }
+{
+    if at < table.len() {
+        Some(table[at].1)
+    } else {
+        None
+    }
+}
+
 /// The word that has a number.
+#[tactic(auto, unfolding(crate::specs::Numbers::word_of, crate::specs::Numbers::words))]
 pub fn word_of(number: u32) -> Option<Word>
     ensures { result ≡ word_of number }
 {
     let number = number as usize;
     if number < STANDARD_NAMES.len() {
-        return None;
+        None
+    } else {
+        word_at(&WORDS, number - STANDARD_NAMES.len())
     }
-    let row = WORDS.get(number - STANDARD_NAMES.len())?;
-    Some(row.1)
 }
