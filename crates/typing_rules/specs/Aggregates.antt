@@ -1,10 +1,8 @@
 -- Aggregates and qualified expressions. -- Ada RM 4.3, 4.7; L8, L16, L17, L18
-use Rattle.std.specs.Prelude.{ℕ, suc, nat_lt, ℤ, pos, ◌+ℤ◌, ◌-ℤ◌, Bool, true, false, not, cond, ◌==◌, ◌&&◌, ◌||◌, ◌++◌, List, [], ◌∷◌, length, map, filter, slice_get, Option, Some, None, is_some, if◌then◌else◌, int_le, int_lt}
+use Rattle.std.specs.Prelude.{ℕ, suc, nat_lt, ℤ, pos, ◌+ℤ◌, ◌-ℤ◌, Bool, true, false, not, ◌==◌, ◌&&◌, ◌||◌, ◌++◌, List, [], ◌∷◌, length, map, slice_get, Option, Some, None, is_some, if◌then◌else◌, int_le, int_lt}
 use Rattle.std.specs.Ordering.{int_eq}
 use Rattle.ada_values.specs.declared.place.Place.{Place}
-use Rattle.ada_values.specs.declared.values.Value.{Value}
 use Rattle.ada_values.specs.declared.values.Value.TheVariants as value
-use Rattle.front_codes.specs.declared.codes.Code.{Code}
 use Rattle.front_codes.specs.declared.codes.Code.TheVariants as code
 use Rattle.typed_units.specs.declared.expressions.Association.{Association}
 use Rattle.typed_units.specs.declared.expressions.Expr.{Expr, out-Expr}
@@ -22,7 +20,7 @@ use Rattle.type_base.specs.declared.world.Component.{Component}
 use Rattle.type_base.specs.declared.world.Form.{Form}
 use Rattle.type_base.specs.declared.world.Form.TheVariants as form
 use Rattle.type_base.specs.declared.world.World.{World}
-use Rattle.type_base.specs.Demands.{broken, check_of, refused, subtype_of}
+use Rattle.type_base.specs.Demands.{broken, check_of, refused}
 use Rattle.type_base.specs.Lookups.{form_at, type_at}
 use Rattle.type_base.specs.Results.{moved}
 use Rattle.typing_rules.specs.declared.prefix.Found.{Found}
@@ -238,6 +236,11 @@ pub data Sort : Type 0 where
   rest : Operand → Sort
   misfit : Sort
 
+-- a range without values is the only choice (Ada RM 4.3.3(17))
+abbrev pub some_values : Bool → Place → Found Bounds → Found Bounds
+some_values alone q (Is b) = if is_empty b && not alone then Refused (broken code.L16 q) else Is b
+some_values alone q r = r
+
 abbrev pub sort_by : Scope → ℕ → Choice → Option Operand → Sort
 sort_by c t (single o) None = positional o
 sort_by c t (single o) (Some v) = chosen (with_found choice_range (single_choice c code.L16 t o)) v
@@ -274,6 +277,9 @@ stopped c g x = record { gathered = misplaced c g x.from; partial = true }
 abbrev pub with_rest : Scope → Array → Gathered → Operand → Items
 with_rest c a g o = record { gathered = record { ranges = g.ranges; done = added_item g.done (item_found c a.item [] true (Some o)) }; partial = true }
 
+abbrev pub is_only : ℕ → List Arg → Bool
+is_only n xs = (n == 0) && is_end xs
+
 -- The associations of an array, after n others: all positional, or all with choices, and `others` at the end. What follows one that
 -- isn't so isn't looked at. -- L16
 abbrev pub items : Scope → Array → Bounds → ℕ → Manner → Gathered → List Arg → Items
@@ -281,7 +287,7 @@ items c a b n m g [] = record { gathered = g; partial = false }
 items c a b n m g (x ∷ xs) =
     sort_else (sort_of c (type_of c.world a.index) x) (stopped c g x)
     (λ o. unless_by_choice m (stopped c g x) (items c a b (suc n) by_place (gathered c a g (position_range b n) (Some o)) xs))
-    (λ r o. unless_by_place m (stopped c g x) (items c a b (suc n) by_choice (gathered c a g r (Some o)) xs))
+    (λ r o. unless_by_place m (stopped c g x) (items c a b (suc n) by_choice (gathered c a g (some_values (is_only n xs) (c.place x.from) r) (Some o)) xs))
     (λ o. if is_end xs then with_rest c a g o else stopped c g x)
 
 abbrev pub items_covered : Scope → Place → Bounds → List Arg → Items → Found (List (Association Expr))

@@ -1,15 +1,13 @@
 -- Attributes. -- Ada RM 3.5, 3.5.5, 3.6.2, 6.1.1, SPARK RM 5.5.3.1; L19
-use Rattle.std.specs.Prelude.{ℕ, ℤ, pos, ◌+ℤ◌, ◌-ℤ◌, Bool, true, false, not, ◌==◌, ◌&&◌, List, [], ◌∷◌, Option, Some, None, if◌then◌else◌}
+use Rattle.std.specs.Prelude.{ℕ, ℤ, pos, ◌+ℤ◌, ◌-ℤ◌, Bool, true, false, not, ◌==◌, List, [], ◌∷◌, Option, Some, None, if◌then◌else◌}
 use Rattle.ada_values.specs.Scalars.{in_base}
 use Rattle.ada_values.specs.declared.place.Place.{Place}
-use Rattle.ada_values.specs.declared.scalars.Scalar.{Scalar}
 use Rattle.ada_values.specs.declared.values.Value.TheVariants as value
-use Rattle.front_codes.specs.declared.codes.Code.{Code}
 use Rattle.front_codes.specs.declared.codes.Code.TheVariants as code
 use Rattle.name_numbers.specs.Numbers.{word_of}
 use Rattle.name_numbers.specs.declared.words.Word.{Word}
 use Rattle.name_numbers.specs.declared.words.Word.TheVariants as word
-use Rattle.typed_units.specs.declared.expressions.Expr.{Expr, out-Expr}
+use Rattle.typed_units.specs.declared.expressions.Expr.{Expr}
 use Rattle.typed_units.specs.declared.expressions.ExprNode.{ExprNode}
 use Rattle.typed_units.specs.declared.expressions.ExprNode.TheVariants as node
 use Rattle.typed_units.specs.declared.expressions.Step.{Step}
@@ -30,8 +28,8 @@ use Rattle.type_base.specs.declared.world.Form.{Form}
 use Rattle.type_base.specs.declared.world.Form.TheVariants as form
 use Rattle.type_base.specs.declared.world.Routine.{Routine}
 use Rattle.type_base.specs.declared.world.World.{World}
-use Rattle.type_base.specs.Demands.{bounds_at, broken, check_in, is_integer, known, made, refused, subtype_of, wanted_integer}
-use Rattle.type_base.specs.Lookups.{form_at, routine_at, type_at}
+use Rattle.type_base.specs.Demands.{bounds_at, check_in, is_integer, known, made, refused, subtype_of, wanted_integer}
+use Rattle.type_base.specs.Lookups.{form_at, routine_at}
 use Rattle.type_base.specs.Results.{number_in}
 use Rattle.type_base.specs.Standard.{integer_base}
 use Rattle.typing_rules.specs.declared.prefix.Mapping.{Mapping}
@@ -39,10 +37,9 @@ use Rattle.typing_rules.specs.declared.prefix.Mapping.TheVariants as mapping
 use Rattle.typing_rules.specs.declared.prefix.Part.{Part}
 use Rattle.typing_rules.specs.declared.prefix.Prefix.{Prefix}
 use Rattle.typing_rules.specs.declared.prefix.Prefix.TheVariants as prefix
-use Rattle.typing_rules.specs.Fits.{refused_beside}
 use Rattle.typing_rules.specs.Lookups.{Array, array_at, seen_as, size_of, type_of}
 use Rattle.typing_rules.specs.Names.{of_type}
-use Rattle.typing_rules.specs.Parts.{Arg, Operand}
+use Rattle.typing_rules.specs.Parts.{Operand}
 use Rattle.typing_rules.specs.Values.{part_value, place_of, seen_of, value_of}
 
 -- ---- what arrays an attribute may be of
@@ -169,15 +166,16 @@ mapping_by p m t k (Some (form.Number d s)) = if is_mapped m d then prefix.Mappi
 mapping_by p m t k (Some f) = prefix.Value (refused code.L19 p)
 mapping_by p m t k None = prefix.Value seen.Unknown
 
-abbrev pub no_mapping : Place → Seen → Seen
-no_mapping p (seen.Refused f) = seen.Refused f
-no_mapping p seen.Unknown = seen.Unknown
-no_mapping p _ = refused code.L19 p
+-- a value that is no fitting prefix
+abbrev pub unfit : Place → Seen → Seen
+unfit p (seen.Refused f) = seen.Refused f
+unfit p seen.Unknown = seen.Unknown
+unfit p _ = refused code.L19 p
 
 -- such an attribute of a prefix, with the place of its tick
 abbrev pub mapping_of : Scope → Place → Mapping → Place → Prefix → Prefix
 mapping_of c p m t (prefix.Subtype k) = mapping_by p m t k (form_at c.world k)
-mapping_of c p m t f = prefix.Value (no_mapping p (value_of c p f))
+mapping_of c p m t f = prefix.Value (unfit p (value_of c p f))
 
 abbrev pub next : Bool → ℤ → ℤ
 next true n = n +ℤ pos 1
@@ -249,7 +247,7 @@ whole_then c p g f (s ∷ ss) = refused code.L19 p
 abbrev pub value_then : Scope → Place → (Object → Option (ExprNode Expr)) → Prefix → Seen
 value_then c p f (prefix.Part g) = whole_then c p g f g.target.path
 value_then c p f (prefix.Constant t x) = seen.Typed t (made p (subtype_of x) (node.Convert None x))
-value_then c p f g = no_mapping p (value_of c p g)
+value_then c p f g = unfit p (value_of c p g)
 
 abbrev pub old_node : Place → Object → Option (ExprNode Expr)
 old_node p (object.Param n) = Some (node.Old p (object.Param n))
@@ -268,11 +266,11 @@ entry_node p l m o = Some (node.LoopEntry p l o)
 
 abbrev pub old_at : Scope → Place → Prefix → Moment → Seen
 old_at c p f moment.InPost = value_then c p (old_node p) f
-old_at c p f _ = refused_beside (broken code.L19 p) (value_of c p f)
+old_at c p f _ = unfit p (value_of c p f)
 
 abbrev pub entry_at : Scope → Place → Prefix → Moment → Seen
 entry_at c p f (moment.InLoop l m) = value_then c p (entry_node p l m) f
-entry_at c p f _ = refused_beside (broken code.L19 p) (value_of c p f)
+entry_at c p f _ = unfit p (value_of c p f)
 
 abbrev pub result_in : Scope → Place → Option ℕ → Seen
 result_in c p (Some k) = seen_as c p k (node.Result p)
@@ -285,7 +283,7 @@ result_by c p q own m (Some r) = refused code.L19 p
 
 abbrev pub result : Scope → Place → Prefix → Seen
 result c p (prefix.Routine q) = result_by c p q c.own c.moment (routine_at c.world q)
-result c p f = no_mapping p (value_of c p f)
+result c p f = unfit p (value_of c p f)
 
 -- ---- all of them
 

@@ -3,7 +3,6 @@ use Rattle.std.specs.Prelude.{ℕ, suc, nat_lt, Bool, true, false, ◌==◌, ◌
 use Rattle.ada_values.specs.declared.place.Place.{Place}
 use Rattle.front_codes.specs.declared.codes.Code.{Code}
 use Rattle.front_codes.specs.declared.codes.Code.TheVariants as code
-use Rattle.front_codes.specs.declared.codes.Refusal.{Refusal}
 use Rattle.typed_units.specs.declared.expressions.Actual.{Actual}
 use Rattle.typed_units.specs.declared.expressions.Actual.TheVariants as actual
 use Rattle.typed_units.specs.declared.expressions.Argument.{Argument}

@@ -22,16 +22,15 @@ use Rattle.type_base.specs.declared.seen.Want.TheVariants as want
 use Rattle.type_base.specs.declared.world.Form.{Form}
 use Rattle.type_base.specs.declared.world.Form.TheVariants as form
 use Rattle.type_base.specs.declared.world.World.{World}
-use Rattle.type_base.specs.Demands.{broken, is_one, made, operand, placed_number, refused, subtype_of, wanted_integer}
+use Rattle.type_base.specs.Demands.{broken, is_one, made, operand, placed_number, subtype_of, wanted_integer}
 use Rattle.type_base.specs.Lookups.{form_at}
 use Rattle.type_base.specs.Results.{truth_at, truth_in}
 use Rattle.type_base.specs.Standard.{boolean}
 use Rattle.typing_rules.specs.declared.prefix.Between.{Between}
 use Rattle.typing_rules.specs.declared.prefix.Found.{Found}
 use Rattle.typing_rules.specs.declared.prefix.Found.TheVariants.{Refused, Unknown, Is}
-use Rattle.typing_rules.specs.Fits.{both, refused_beside, seen_then}
+use Rattle.typing_rules.specs.Fits.{both, seen_then}
 use Rattle.typing_rules.specs.Lookups.{seen_as, type_of}
-use Rattle.typing_rules.specs.Names.{beside}
 use Rattle.typing_rules.specs.Parts.{Operand, Range}
 use Rattle.typing_rules.specs.Parts as parts
 use Rattle.typing_rules.specs.Ranges.{found_expr, range_found, want_or}

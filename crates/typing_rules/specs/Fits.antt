@@ -1,5 +1,5 @@
 -- What is found of several parts, and values that are to be of a subtype. -- Ada RM 4.6, 5.2, 6.4.1
-use Rattle.std.specs.Prelude.{ℕ, Bool, true, false, not, ◌&&◌, ◌||◌, ◌==◌, Option, Some, None, if◌then◌else◌}
+use Rattle.std.specs.Prelude.{ℕ, Bool, true, false, not, ◌&&◌, ◌==◌, Option, Some, None, if◌then◌else◌}
 use Rattle.std.specs.Ordering.{int_eq}
 use Rattle.ada_values.specs.declared.place.Place.{Place}
 use Rattle.front_codes.specs.Codes.{first_of_two}
@@ -8,7 +8,6 @@ use Rattle.front_codes.specs.declared.codes.Refusal.{Refusal}
 use Rattle.typed_units.specs.declared.expressions.Expr.{Expr}
 use Rattle.typed_units.specs.declared.expressions.Fitted.{Fitted}
 use Rattle.typed_units.specs.declared.operators.Bounds.{Bounds}
-use Rattle.type_base.specs.Scope.{Scope}
 use Rattle.type_base.specs.declared.seen.Seen.{Seen}
 use Rattle.type_base.specs.declared.seen.Seen.TheVariants as seen
 use Rattle.type_base.specs.declared.world.Form.{Form}
@@ -42,6 +41,11 @@ abbrev pub both : {A : Type 0} → {B : Type 0} → {C : Type 0} → (A → B �
 both f (Refused g) b = with_refused g b
 both f Unknown b = with_unknown b
 both f (Is a) b = with_found (f a) b
+
+abbrev pub found_fault : {A : Type 0} → Found A → Option Refusal
+found_fault (Refused f) = Some f
+found_fault Unknown = None
+found_fault (Is a) = None
 
 -- what is found beside a refusal
 abbrev pub spoiled : {A : Type 0} → Found A → Refusal → Found A

@@ -2,7 +2,6 @@
 use Rattle.std.specs.Prelude.{ℕ, Bool, true, false, not, List, [], ◌∷◌, Option, Some, None}
 use Rattle.ada_values.specs.declared.place.Place.{Place}
 use Rattle.front_codes.specs.declared.codes.Code.TheVariants as code
-use Rattle.ada_syntax.specs.declared.expressions.UnaryOperator.{UnaryOperator}
 use Rattle.type_base.specs.Operators.{family_of, joined, unary_of}
 use Rattle.type_base.specs.Scope.{Scope}
 use Rattle.type_base.specs.declared.seen.Family.{Family}

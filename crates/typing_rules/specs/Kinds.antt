@@ -1,6 +1,6 @@
 -- The type of an expression, as far as its form and its names tell without a context: none of numbers, of `'Length` and of
 -- aggregates. It decides what type the expression beside it takes (Ada RM 8.6), and is no test.
-use Rattle.std.specs.Prelude.{ℕ, Bool, true, false, List, [], ◌∷◌, Option, Some, None}
+use Rattle.std.specs.Prelude.{ℕ, List, [], ◌∷◌, Option, Some, None}
 use Rattle.ada_syntax.specs.declared.expressions.UnaryOperator.{UnaryOperator}
 use Rattle.ada_syntax.specs.declared.expressions.UnaryOperator.TheVariants as unary'
 use Rattle.name_library.specs.declared.links.Link.{Link}

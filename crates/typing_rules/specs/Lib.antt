@@ -10,4 +10,6 @@ pub mod Aggregates
 pub mod Conditions
 pub mod Kinds
 pub mod Forms
+pub mod Faults
 pub mod Reading
+pub mod Cases

@@ -1,8 +1,7 @@
 -- What stands in a scope.
-use Rattle.std.specs.Prelude.{ℕ, suc, ℤ, pos, Bool, true, false, not, ◌&&◌, ◌||◌, ◌==◌, List, [], ◌∷◌, Option, Some, None, slice_get, take, drop, length, if◌then◌else◌, int_le, int_lt, ◌-ℤ◌, ◌+ℤ◌}
+use Rattle.std.specs.Prelude.{ℕ, suc, ℤ, pos, not, ◌&&◌, ◌==◌, List, [], ◌∷◌, Option, Some, None, take, drop, if◌then◌else◌, int_lt, ◌-ℤ◌, ◌+ℤ◌}
 use Rattle.std.specs.Ordering.{int_eq}
 use Rattle.ada_values.specs.declared.place.Place.{Place}
-use Rattle.ada_values.specs.declared.scalars.Scalar.{Scalar}
 use Rattle.ada_values.specs.declared.values.Value.{Value}
 use Rattle.ada_values.specs.declared.values.Value.TheVariants as value
 use Rattle.name_library.specs.declared.links.Link.{Link}
@@ -10,7 +9,6 @@ use Rattle.name_library.specs.declared.links.Link.TheVariants as link
 use Rattle.name_library.specs.declared.links.Spot.{Spot}
 use Rattle.typed_units.specs.declared.expressions.Expr.{Expr}
 use Rattle.typed_units.specs.declared.expressions.ExprNode.{ExprNode}
-use Rattle.typed_units.specs.declared.expressions.ExprNode.TheVariants as node
 use Rattle.typed_units.specs.declared.operators.Bounds.{Bounds}
 use Rattle.typed_units.specs.declared.operators.Object.TheVariants as object
 use Rattle.type_base.specs.Scope.{Scope}
@@ -23,12 +21,9 @@ use Rattle.type_base.specs.declared.seen.Seen.TheVariants as seen
 use Rattle.type_base.specs.declared.world.Component.{Component}
 use Rattle.type_base.specs.declared.world.Form.{Form}
 use Rattle.type_base.specs.declared.world.Form.TheVariants as form
-use Rattle.type_base.specs.declared.world.Formal.{Formal}
-use Rattle.type_base.specs.declared.world.Routine.{Routine}
-use Rattle.type_base.specs.declared.world.Subtype.{Subtype}
 use Rattle.type_base.specs.declared.world.World.{World}
 use Rattle.type_base.specs.Demands.{made}
-use Rattle.type_base.specs.Lookups.{component_at, form_at, routine_at, subtype_at, type_at}
+use Rattle.type_base.specs.Lookups.{form_at, type_at}
 use Rattle.type_base.specs.Standard.{boolean, linked}
 
 -- ---- what names stand for

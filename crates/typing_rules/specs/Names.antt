@@ -1,44 +1,41 @@
 -- Names with selectors, indexes and conversions. -- Ada RM 4.1, 4.6
-use Rattle.std.specs.Prelude.{ℕ, ℤ, Bool, true, false, not, ◌==◌, ◌&&◌, ◌||◌, List, [], ◌∷◌, ◌++◌, length, Option, Some, None, is_none, if◌then◌else◌}
+use Rattle.std.specs.Prelude.{ℕ, ℤ, Bool, true, false, not, ◌==◌, ◌&&◌, ◌||◌, List, [], ◌∷◌, ◌++◌, length, Option, Some, None, if◌then◌else◌}
 use Rattle.ada_values.specs.Scalars.{in_base}
 use Rattle.ada_values.specs.declared.place.Place.{Place}
 use Rattle.ada_values.specs.declared.values.Value.{Value}
 use Rattle.ada_values.specs.declared.values.Value.TheVariants as value
 use Rattle.front_codes.specs.declared.codes.Code.{Code}
 use Rattle.front_codes.specs.declared.codes.Code.TheVariants as code
+use Rattle.front_codes.specs.declared.codes.Refusal.{Refusal}
 use Rattle.name_library.specs.declared.links.Link.{Link}
 use Rattle.typed_units.specs.declared.expressions.Expr.{Expr, out-Expr}
 use Rattle.typed_units.specs.declared.expressions.ExprNode.{ExprNode}
 use Rattle.typed_units.specs.declared.expressions.ExprNode.TheVariants as node
-use Rattle.typed_units.specs.declared.expressions.Fitted.{Fitted}
 use Rattle.typed_units.specs.declared.expressions.Indexed.{Indexed}
-use Rattle.typed_units.specs.declared.expressions.Step.{Step}
 use Rattle.typed_units.specs.declared.expressions.Step.TheVariants as step
 use Rattle.typed_units.specs.declared.operators.Bounds.{Bounds}
 use Rattle.type_base.specs.Scope.{Scope}
 use Rattle.type_base.specs.declared.seen.Seen.{Seen}
 use Rattle.type_base.specs.declared.seen.Seen.TheVariants as seen
-use Rattle.type_base.specs.declared.seen.Want.{Want}
 use Rattle.type_base.specs.declared.seen.Want.TheVariants as want
 use Rattle.type_base.specs.declared.world.Component.{Component}
-use Rattle.type_base.specs.declared.world.Discrete.{Discrete}
 use Rattle.type_base.specs.declared.world.Form.{Form}
 use Rattle.type_base.specs.declared.world.Form.TheVariants as form
 use Rattle.type_base.specs.declared.world.Formal.{Formal}
 use Rattle.type_base.specs.declared.world.Routine.{Routine}
 use Rattle.type_base.specs.declared.world.World.{World}
-use Rattle.type_base.specs.Demands.{bounds_at, broken, check_of, includes, is_integer, is_whole, known, made, placed_number, refused, subtype_of}
-use Rattle.type_base.specs.Lookups.{form_at, routine_at, type_at}
+use Rattle.type_base.specs.Demands.{broken, check_of, includes, is_whole, known, made, placed_number, refused, subtype_of}
+use Rattle.type_base.specs.Lookups.{form_at, type_at}
 use Rattle.typing_rules.specs.declared.prefix.Found.{Found}
 use Rattle.typing_rules.specs.declared.prefix.Found.TheVariants as found
 use Rattle.typing_rules.specs.declared.prefix.Part.{Part}
 use Rattle.typing_rules.specs.declared.prefix.Prefix.{Prefix}
 use Rattle.typing_rules.specs.declared.prefix.Prefix.TheVariants as prefix
-use Rattle.typing_rules.specs.Calls.{arguments, operand_of, same_type}
-use Rattle.typing_rules.specs.Fits.{both, spoiled, fit, refused_beside, seen_then}
-use Rattle.typing_rules.specs.Lookups.{Array, array_at, components_at, entity_by, place_among, seen_as, type_of}
-use Rattle.typing_rules.specs.Parts.{Arg, Choice, Operand, between, others, single}
-use Rattle.typing_rules.specs.Values.{call_value, component_subtype, entity_prefix, formals_of, item_subtype, no_arguments, place_of, seen_of, value_of}
+use Rattle.typing_rules.specs.Calls.{arguments, operand_of}
+use Rattle.typing_rules.specs.Fits.{spoiled, refused_beside, seen_then}
+use Rattle.typing_rules.specs.Lookups.{Array, array_at, components_at, entity_by, place_among, seen_as}
+use Rattle.typing_rules.specs.Parts.{Arg, Choice, Operand, single}
+use Rattle.typing_rules.specs.Values.{call_value, component_subtype, entity_prefix, formals_of, place_of, prefix_fault, seen_of, value_of}
 
 -- the only argument, where it is an expression alone
 abbrev pub alone_by : Choice → Option Operand → List Arg → Option Operand
@@ -79,9 +76,13 @@ abbrev pub component : Scope → Place → ℕ → Prefix → Prefix
 component c p m (prefix.Part g) = part_component p m g (components_at c.world g.subtype)
 component c p m f = prefix.Value (value_component c p m (value_of c p f))
 
+abbrev pub unless_refused : Option Refusal → Prefix → Prefix
+unless_refused (Some f) g = prefix.Value (seen.Refused f)
+unless_refused None g = g
+
 -- an identifier that has a link starts anew; another is a component
 abbrev pub selected_by : Scope → Place → Prefix → ℕ → Option Link → Prefix
-selected_by c p f at (Some l) = entity_prefix c p (entity_by c (Some l))
+selected_by c p f at (Some l) = unless_refused (prefix_fault f) (entity_prefix c p (entity_by c (Some l)))
 selected_by c p f at None = component c p (c.name at) f
 
 abbrev pub selection : Scope → Place → Prefix → ℕ → Prefix

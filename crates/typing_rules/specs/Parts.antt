@@ -1,11 +1,9 @@
 -- An expression as the rules look at it: its form, and for each part inside what that gives in a context.
 use Rattle.std.specs.Prelude.{ℕ, ℤ, Bool, List, Option}
-use Rattle.ada_values.specs.declared.place.Place.{Place}
 use Rattle.front_codes.specs.declared.codes.Refusal.{Refusal}
 use Rattle.ada_syntax.specs.declared.expressions.BinaryOperator.{BinaryOperator}
 use Rattle.ada_syntax.specs.declared.expressions.Quantifier.{Quantifier}
 use Rattle.ada_syntax.specs.declared.expressions.UnaryOperator.{UnaryOperator}
-use Rattle.type_base.specs.Scope.{Scope}
 use Rattle.type_base.specs.declared.seen.Want.{Want}
 use Rattle.typing_rules.specs.declared.prefix.Prefix.{Prefix}
 

@@ -1,12 +1,10 @@
 -- Ranges, choices and membership tests. -- Ada RM 3.5, 3.8.1, 4.5.2; L7, L16, L21, L22, L23
-use Rattle.std.specs.Prelude.{ℕ, ℤ, Bool, true, false, not, ◌==◌, ◌&&◌, List, [], ◌∷◌, Option, Some, None, if◌then◌else◌, int_le}
+use Rattle.std.specs.Prelude.{ℕ, ℤ, Bool, true, false, not, ◌==◌, Option, Some, None, if◌then◌else◌}
 use Rattle.ada_values.specs.Scalars.{within}
 use Rattle.ada_values.specs.declared.place.Place.{Place}
 use Rattle.ada_values.specs.declared.values.Value.TheVariants as value
-use Rattle.front_codes.specs.Codes.{first_of_two}
 use Rattle.front_codes.specs.declared.codes.Code.{Code}
 use Rattle.front_codes.specs.declared.codes.Code.TheVariants as code
-use Rattle.front_codes.specs.declared.codes.Refusal.{Refusal}
 use Rattle.typed_units.specs.declared.expressions.Expr.{Expr}
 use Rattle.typed_units.specs.declared.expressions.ExprNode.TheVariants as node
 use Rattle.typed_units.specs.declared.operators.Bounds.{Bounds}
@@ -37,7 +35,7 @@ use Rattle.typing_rules.specs.declared.prefix.Reach.TheVariants as reach
 use Rattle.typing_rules.specs.Fits.{both, refused_beside, with_found}
 use Rattle.typing_rules.specs.Lookups.{type_of}
 use Rattle.typing_rules.specs.Names.{typed_as}
-use Rattle.typing_rules.specs.Parts.{Choice, Operand, Range, between, others, single}
+use Rattle.typing_rules.specs.Parts.{Operand, Range}
 use Rattle.typing_rules.specs.Values.{place_of, seen_of, value_of}
 
 -- ---- what the context gives operands (Ada RM 8.6)

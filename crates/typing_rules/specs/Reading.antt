@@ -1,9 +1,9 @@
 -- What is seen of an expression: the rules of its form over what is seen of its parts.
-use Rattle.std.specs.Prelude.{ℕ, ℤ, Bool, true, false, List, [], ◌∷◌, Option, Some, None}
-use Rattle.ada_text.specs.declared.token.Span.{Span}
+use Rattle.std.specs.Prelude.{ℕ, List, [], ◌∷◌, Option, Some, None}
 use Rattle.ada_values.specs.declared.place.Place.{Place}
 use Rattle.front_codes.specs.declared.codes.Code.{Code}
 use Rattle.front_codes.specs.declared.codes.Code.TheVariants as code
+use Rattle.front_codes.specs.declared.codes.Refusal.{Refusal}
 use Rattle.syntax_view.specs.Trees as tree
 use Rattle.typed_units.specs.declared.expressions.Argument.{Argument}
 use Rattle.typed_units.specs.declared.expressions.Expr.{Expr}
@@ -18,11 +18,12 @@ use Rattle.type_base.specs.Lookups.{routine_at}
 use Rattle.typing_rules.specs.declared.prefix.Between.{Between}
 use Rattle.typing_rules.specs.declared.prefix.Call.{Call}
 use Rattle.typing_rules.specs.declared.prefix.Found.{Found}
-use Rattle.typing_rules.specs.declared.prefix.Found.TheVariants.{Refused, Unknown, Is}
+use Rattle.typing_rules.specs.declared.prefix.Found.TheVariants.{Refused, Unknown}
 use Rattle.typing_rules.specs.declared.prefix.Part.{Part}
 use Rattle.typing_rules.specs.declared.prefix.Prefix.{Prefix}
 use Rattle.typing_rules.specs.declared.prefix.Prefix.TheVariants as prefix
 use Rattle.typing_rules.specs.Calls.{variable}
+use Rattle.typing_rules.specs.Faults.{faults_of, form_faults}
 use Rattle.typing_rules.specs.Fits.{with_found}
 use Rattle.typing_rules.specs.Forms.{form_kind, form_prefix, is_identifier, name_prefix}
 use Rattle.typing_rules.specs.Lookups.{with_index}
@@ -32,7 +33,7 @@ use Rattle.typing_rules.specs.Ranges.{range_found}
 use Rattle.typing_rules.specs.Values.{formals_of, no_arguments, seen_of, value_of}
 
 abbrev pub operand : Scope → ℕ → Form → Operand
-operand c at f = record { from = at; alone = is_identifier f; kind = form_kind c f; prefix = form_prefix c (c.place at) f; faults = λ w. [] }
+operand c at f = record { from = at; alone = is_identifier f; kind = form_kind c f; prefix = form_prefix c (c.place at) f; faults = form_faults c (c.place at) f }
 
 abbrev mutual
   pub read : Scope → tree.Expr → Operand
@@ -104,6 +105,10 @@ abbrev mutual
 -- an expression in a context
 abbrev pub seen : Scope → Want → tree.Expr → Seen
 seen c w e = seen_of c (read c e) w
+
+-- all rules that are broken in it
+abbrev pub faults : Scope → Want → tree.Expr → List Refusal
+faults c w e = faults_of c (read c e) w
 
 abbrev pub kind : Scope → tree.Expr → Option ℕ
 kind c e = (read c e).kind

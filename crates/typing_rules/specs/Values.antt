@@ -1,8 +1,9 @@
 -- What a name stands for, and the value that it is. -- Ada RM 4.1, 6.4
-use Rattle.std.specs.Prelude.{ℕ, zero, suc, ℤ, Bool, true, false, List, [], ◌∷◌, ◌++◌, Option, Some, None, take, drop, length}
+use Rattle.std.specs.Prelude.{ℕ, zero, suc, List, [], ◌∷◌, Option, Some, None, take, drop}
 use Rattle.ada_values.specs.declared.place.Place.{Place}
 use Rattle.ada_values.specs.declared.values.Value.{Value}
 use Rattle.front_codes.specs.declared.codes.Code.TheVariants as code
+use Rattle.front_codes.specs.declared.codes.Refusal.{Refusal}
 use Rattle.typed_units.specs.declared.expressions.Argument.{Argument}
 use Rattle.typed_units.specs.declared.expressions.Expr.{Expr}
 use Rattle.typed_units.specs.declared.expressions.ExprNode.TheVariants as node
@@ -21,14 +22,15 @@ use Rattle.type_base.specs.declared.world.Formal.{Formal}
 use Rattle.type_base.specs.declared.world.Routine.{Routine}
 use Rattle.type_base.specs.declared.world.World.{World}
 use Rattle.type_base.specs.Demands.{broken, made, refused}
+use Rattle.type_base.specs.Faults.{fault_of}
 use Rattle.type_base.specs.Lookups.{constant_at, routine_at, type_at}
 use Rattle.typing_rules.specs.declared.prefix.Found.{Found}
 use Rattle.typing_rules.specs.declared.prefix.Found.TheVariants as found
 use Rattle.typing_rules.specs.declared.prefix.Part.{Part}
 use Rattle.typing_rules.specs.declared.prefix.Prefix.{Prefix}
 use Rattle.typing_rules.specs.declared.prefix.Prefix.TheVariants as prefix
-use Rattle.typing_rules.specs.Fits.{refused_beside, seen_then}
-use Rattle.typing_rules.specs.Lookups.{Array, array_at, components_at, number_or, scalar_value, seen_as, type_of}
+use Rattle.typing_rules.specs.Fits.{found_fault, refused_beside, seen_then}
+use Rattle.typing_rules.specs.Lookups.{Array, array_at, components_at, scalar_value, seen_as, type_of}
 use Rattle.typing_rules.specs.Parts.{Operand}
 
 -- ---- what a name stands for
@@ -119,6 +121,12 @@ value_of c p (prefix.Range b) = refused code.L19 p
 value_of c p (prefix.Constant t x) = seen.Typed t x
 value_of c p (prefix.Part g) = seen.Typed (type_of c.world g.subtype) (part_value c.world g)
 value_of c p (prefix.Value s) = s
+
+-- what is refused in a name so far
+abbrev pub prefix_fault : Prefix → Option Refusal
+prefix_fault (prefix.Value s) = fault_of s
+prefix_fault (prefix.Called q as') = found_fault as'
+prefix_fault f = None
 
 abbrev pub place_of : Scope → Operand → Place
 place_of c o = c.place o.from

@@ -2,6 +2,7 @@
 #![tactic(auto)]
 
 mod hint;
+pub mod laws;
 mod prefix;
 
 pub use hint::Hint;
