@@ -1,12 +1,12 @@
 -- Hints of components and of calls, and parts of lists.
-use Rattle.std.proofs.Common.{◌≡◌, refl, sym, ap, ◌∙◌, ℕ, zero, suc, ◌-◌, Bool, true, false, ◌==◌, List, [], ◌∷◌, length, take, drop, Option, Some, None}
+use Rattle.std.proofs.Common.{◌≡◌, refl, sym, ap, ◌∙◌, ℕ, suc, ◌-◌, Bool, true, false, ◌==◌, List, [], ◌∷◌, length, take, drop, Option, Some, None}
 use Rattle.std.specs.Prelude.{if◌then◌else◌, min}
 use Rattle.std.proofs.lemmas.List.{drop_min, take_min, take_rest}
 use Rattle.type_base.specs.declared.world.Component.{Component}
 use Rattle.type_base.specs.declared.world.Formal.{Formal}
 use Rattle.type_base.specs.declared.world.World.{World}
 use Rattle.typing_rules.specs.declared.hint.Hint.{Hint}
-use Rattle.typing_rules.specs.declared.hint.Hint.TheVariants.{Nothing, Value}
+use Rattle.typing_rules.specs.declared.hint.Hint.TheVariants.{Value}
 use Rattle.typing_rules.specs.Kinds.{call_hint, component_at_hint, item_hint}
 use Rattle.typing_rules.specs.Lookups.{array_at, place_among}
 use Rattle.name_kinds.specs.Parts.{has_some, hint_among}
