@@ -1,1 +1,3 @@
 mod Firsts
+pub mod Stored
+mod Told

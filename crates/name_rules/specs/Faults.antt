@@ -1,5 +1,7 @@
 -- All broken rules of names of a program, one line a demand, and its answer: the first of them, or all links.
 use Rattle.std.specs.Prelude.{◌≡◌, ℕ, Bool, true, false, not, ◌&&◌, ◌||◌, ◌==◌, ◌++◌, ◌⊎◌, nat_lt, List, [], ◌∷◌, slice_get, Option, Some, None, is_some, unwrap_or, if◌then◌else◌}
+use Rattle.std.specs.BTreeMap.{BTreeMap, get}
+use Rattle.std.specs.Ordering.{nat_cmp}
 use Rattle.name_library.specs.declared.events.Event.{Event}
 use Rattle.name_library.specs.declared.events.Ident.{Ident}
 use Rattle.name_library.specs.declared.links.Fault.{Fault}
@@ -16,6 +18,7 @@ use Rattle.name_frames.specs.declared.entries.Entry.{Entry}
 use Rattle.name_frames.specs.declared.entries.Sort.{Sort}
 use Rattle.name_frames.specs.declared.entries.Sort.TheVariants as sort
 use Rattle.name_scopes.specs.declared.state.Scopes.{Scopes}
+use Rattle.name_rules.specs.declared.files.Found.{Found}
 use Rattle.name_rules.specs.declared.program.Answer.{Answer}
 use Rattle.name_rules.specs.declared.program.Answer.TheVariants as verdict
 use Rattle.name_frames.specs.Meaning.{standard_names}
@@ -98,20 +101,20 @@ has_subprogram (e ∷ es) = is_subprogram e.sort || has_subprogram es
 abbrev pub events_of : List (List Event) → ℕ → List Event
 events_of files n = unwrap_or (slice_get files n) []
 
--- what stands at the end of the declaration of a unit
-abbrev pub declared_state : List (List Event) → List LibraryUnit → LibraryUnit → Scopes
-declared_state files l u = after l (start u.spot.file) (events_of files u.spot.file)
+-- what stands at the end of a file that goes on from no other
+abbrev pub ended : List (List Event) → List LibraryUnit → ℕ → Scopes
+ended files l file = after l (start file) (events_of files file)
 
 abbrev pub carried_state : List (List Event) → List LibraryUnit → ℕ → Option LibraryUnit → Scopes
 carried_state files l file None = start file
-carried_state files l file (Some u) = carried file (declared_state files l u)
+carried_state files l file (Some u) = carried file (ended files l u.spot.file)
 
 -- what a unit begins with: a body goes on where its declaration ends
 abbrev pub opening : List (List Event) → List LibraryUnit → LibraryUnit → Scopes
 opening files l u = carried_state files l u.spot.file (own_declaration l u.name u.part)
 
-abbrev pub state_of : List (List Event) → List LibraryUnit → LibraryUnit → Scopes
-state_of files l u = after l (opening files l u) (events_of files u.spot.file)
+abbrev pub state_from : List (List Event) → List LibraryUnit → LibraryUnit → Scopes → Scopes
+state_from files l u s = after l s (events_of files u.spot.file)
 
 -- a package without its body declares no subprogram
 abbrev pub without_body : LibraryUnit → List Entry → Bool → List Fault
@@ -125,9 +128,18 @@ end_faults l u had es part.PackageDeclaration = without_body u es (is_some (unit
 end_faults l u had es part.PackageBody = unless (not (is_some (unit_as part.PackageDeclaration u.name l)) || had) rule.SpecMismatch u.spot ++ bodies es
 end_faults l u had es _ = []
 
+-- what is found in a unit's file, by what it begins with
+abbrev pub found_from : List (List Event) → List LibraryUnit → LibraryUnit → Scopes → Found
+found_from files l u s = record {
+  findings = (state_from files l u s).findings;
+  ends = end_faults l u (has_subprogram s.top.entries) (state_from files l u s).top.entries u.part;
+}
+
+abbrev pub found_in : List (List Event) → List LibraryUnit → LibraryUnit → Found
+found_in files l u = found_from files l u (opening files l u)
+
 abbrev pub file_faults : List (List Event) → List LibraryUnit → LibraryUnit → List Fault
-file_faults files l u =
-    (state_of files l u).findings.faults ++ end_faults l u (has_subprogram (opening files l u).top.entries) (state_of files l u).top.entries u.part
+file_faults files l u = (found_in files l u).findings.faults ++ (found_in files l u).ends
 
 abbrev pub all_files : List (List Event) → List LibraryUnit → List LibraryUnit → List Fault
 all_files files l [] = []
@@ -183,7 +195,7 @@ IsFirst (Some f) fs = IsIn f fs × NoneBefore f fs
 
 abbrev pub all_usages : List (List Event) → List LibraryUnit → List LibraryUnit → List Usage
 all_usages files l [] = []
-all_usages files l (u ∷ us) = (state_of files l u).findings.usages ++ all_usages files l us
+all_usages files l (u ∷ us) = (found_in files l u).findings.usages ++ all_usages files l us
 
 -- what each identifier stands for, in the order of files and of the text
 abbrev pub usages : List (List Event) → List Usage
@@ -196,3 +208,17 @@ told None us = verdict.Named us
 
 abbrev pub answer : List (List Event) → Answer
 answer files = told (first_of (faults files)) (usages files)
+
+-- ---- the code goes through each file once: those that go on from no other first, and keeps what their bodies find
+
+abbrev pub first_found : List (List Event) → List LibraryUnit → LibraryUnit → Option LibraryUnit → Option Found
+first_found files l u None = Some (found_from files l u (start u.spot.file))
+first_found files l u (Some d) = None
+
+abbrev pub firsts_from : List (List Event) → List LibraryUnit → List LibraryUnit → List (Option Found)
+firsts_from files l [] = []
+firsts_from files l (u ∷ us) = first_found files l u (own_declaration l u.name u.part) ∷ firsts_from files l us
+
+-- what is kept by the numbers of files is what bodies find at their ends
+abbrev pub AllKept : List (List Event) → List LibraryUnit → BTreeMap ℕ Scopes → Type 0
+AllKept files l kept = (k : ℕ) (s : Scopes) → get nat_cmp kept k ≡ Some s → s ≡ carried k (ended files l k)

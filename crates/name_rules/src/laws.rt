@@ -4,16 +4,24 @@
 //! number too, in its file. `refuses rule 1 20` is a refusal at place 20 of file 1, and `leads 2 40 1 20` a link from place 40 of
 //! file 2 to the declaration at place 20 of file 1.
 
-ghost use Rattle.std.specs.Prelude.{◌≡◌, List, [], ◌∷◌, ◌++◌, true, false};
+ghost use Rattle.std.specs.Prelude.{◌≡◌, List, [], ◌∷◌, ◌++◌, true, false, Some};
 ghost use Rattle.name_library.specs.declared.events.Event.{Event};
 ghost use Rattle.name_library.specs.declared.links.NameFault.TheVariants as rule;
-ghost use Rattle.name_rules.specs.Faults.{IsFirst, answer, faults, first_of};
-ghost use Rattle.name_rules.specs.declared.program.Answer.TheVariants.{Named};
+ghost use Rattle.name_rules.specs.Faults.{IsFirst, answer, faults, first_of, usages};
+ghost use Rattle.name_rules.specs.declared.program.Answer.TheVariants.{Named, Refused};
+ghost use Rattle.name_library.specs.declared.links.Fault.{Fault};
+ghost use Rattle.name_library.specs.declared.links.Usage.{Usage};
 ghost use Rattle.name_rules.specs.Cases.{refuses, leads, leads_to_standard, uses, integer, object, procedure, by_in, by_out, package_of, body, with_use, loop_over, record_of, type_of, in_aspect, selects, end_name, in_choice, left_out, list_ends, literals, result_ends, clause_uses, withs, context_uses, p_with_a, r_with_a, q_declared, q_in_body};
 
 /// The refusal is the first of all broken rules by file, place and rule, and there is none exactly where no rule is broken.
 pub fn refusals_are_first()
     ensures { (files : List (List Event)) → IsFirst (first_of (faults files)) (faults files) }
+{}
+
+/// What is refused is the first of all broken rules; and where a program's names are told, no rule is broken.
+pub fn answers_are_right()
+    ensures refused { (files : List (List Event)) (f : Fault) → answer files ≡ Refused f → IsFirst (Some f) (faults files) }
+    ensures named { (files : List (List Event)) (us : List Usage) → answer files ≡ Named us → (faults files ≡ []) × (us ≡ usages files) }
 {}
 
 /// A name stands for a declaration before it, and not inside that declaration.
