@@ -3,3 +3,4 @@ pub mod Statements
 pub mod Declarations
 pub mod Events
 pub mod Nested
+pub mod Cases

@@ -6,6 +6,7 @@
 #![tactic(auto)]
 
 mod asked;
+mod cases;
 mod declarations;
 mod laws;
 mod statements;
@@ -13,6 +14,7 @@ mod subprograms;
 mod units;
 mod words;
 
+pub use cases::{declarations_told, expressions_told, loops_told, names_told, packages_told};
 pub use laws::scopes_nest;
 pub use name_uses::Starved;
 pub use units::events_of;
