@@ -13,7 +13,7 @@ use Rattle.typing_rules.specs.declared.prefix.Found.{Found}
 use Rattle.typing_rules.specs.declared.prefix.Found.TheVariants.{Refused, Unknown, Is}
 use Rattle.typing_rules.specs.declared.prefix.Prefix.{Prefix}
 use Rattle.typing_rules.specs.Faults as broken
-use Rattle.typing_rules.specs.Fits.{found_then}
+use Rattle.typing_rules.specs.Fits.{found_fault, found_then}
 use Rattle.typing_rules.specs.Lookups.{type_of}
 use Rattle.typing_rules.specs.Ranges.{reach_in, reach_of}
 use Rattle.typing_rules.specs.Reading as reading
@@ -37,7 +37,7 @@ name_faults c (tree.named s i ss) = broken.name_faults c want.Free (c.place s.fr
 
 -- what a rule demands of a name, where nothing is broken in that
 abbrev pub fault_of_name : {A : Type 0} → Prefix → Found A → List Refusal
-fault_of_name f x = broken.own_fault f (broken.found_fault x)
+fault_of_name f x = broken.own_fault f (found_fault x)
 
 -- ---- ranges, which are to be of the type that the context gives
 
@@ -69,5 +69,5 @@ range_seen c r w g = found_then (range_between c r w g) (of_wanted c r w g)
 abbrev pub range_faults : Scope → Code → Want → tree.Range → List Refusal
 range_faults c r w g =
     broken.reach_faults c r w (reading.range c g)
-    ++ broken.waits_for_reach (reach_of c r w (reading.range c g)) (broken.found_fault (range_between c r w g))
+    ++ broken.waits_for_reach (reach_of c r w (reading.range c g)) (found_fault (range_between c r w g))
     ++ fault_after (range_between c r w g) (range_seen c r w g)

@@ -83,7 +83,6 @@ pub fn cases()
     ensures by_values { breaks (case_on 500 (id 180) (when (choice (num 200 1)) (when (choice_range (num 300 2) (num 400 10)) tree.no_alternatives))) ≡ [] }
     ensures not_static { breaks (case_on 500 (id 160) (when (choice (id 260)) (when tree.other_values tree.no_alternatives))) ≡ refusal rule.L21 260 }
     ensures of_truth { breaks (case_on 500 (id 162) (when tree.other_values tree.no_alternatives)) ≡ refusal rule.L21 162 }
-    ensures in_parentheses { breaks (case_on 500 (tree.at (span 100) (tree.group (args (arg 180 (id 180) ∷ [])))) (when (choice_range (num 300 1) (num 400 10)) tree.no_alternatives)) ≡ refusal rule.L21 500 }
 {}
 
 /// A loop goes over an integer or enumeration range, and `exit` stands inside one. -- L22, L24
