@@ -11,12 +11,12 @@ use Rattle.typed_units.specs.declared.operators.Object.TheVariants as object
 use Rattle.type_base.specs.declared.entities.Access.TheVariants as access
 use Rattle.type_base.specs.declared.entities.Entity.TheVariants as entity
 use Rattle.type_base.specs.declared.seen.Moment.TheVariants as moment
+use Rattle.type_base.specs.Lookups.{with_entity}
 use Rattle.syntax_view.specs.Trees as tree
 use Rattle.typing_rules.specs.declared.prefix.Found.{Found}
 use Rattle.typing_rules.specs.declared.prefix.Found.TheVariants.{Is}
 use Rattle.typing_rules.specs.Cases.{id, name_tree, place, scope, scope_of, span}
 use Rattle.statement_typing.specs.declared.draft.Draft.{Draft}
-use Rattle.statement_typing.specs.Drafts.{world_with}
 use Rattle.statement_typing.specs.Files.{File, Home}
 use Rattle.statement_typing.specs.Statements.{Around, Loop, Returns, nothing, a_value, stmts, stmts_faults}
 use Rattle.statement_typing.specs.Units.{decls_faults, statements_faults}
@@ -179,7 +179,7 @@ home q = record { file = file; own = q; number = λ at. 0; globals = []; routine
 
 -- name 83 is a package's variable of Integer
 abbrev pub draft : Draft
-draft = record { world = world_with (record { file = 0; at = 83 }) (entity.Object 2 (object.Global 0) access.Variable) scope.world; names = []; globals = []; subs = []; locals = []; opening = [] }
+draft = record { world = with_entity scope.world (record { file = 0; at = 83 }) (entity.Object 2 (object.Global 0) access.Variable); names = []; globals = []; subs = []; locals = []; opening = [] }
 
 -- what a declaration of a subprogram, and one of a package, breaks
 abbrev pub local_breaks : tree.Decls → List Refusal

@@ -1,5 +1,5 @@
 -- What is entered into a program that is being typed.
-use Rattle.std.specs.Prelude.{ℕ, zero, suc, ◌+◌, ◌-◌, ℤ, pos, Option, Some, None, List, [], ◌∷◌, ◌++◌, length, ◌==◌, nat_lt, slice_get, if◌then◌else◌}
+use Rattle.std.specs.Prelude.{ℕ, zero, suc, ◌+◌, ◌-◌, ℤ, pos, Option, Some, None, List, [], ◌∷◌, ◌++◌, length}
 use Rattle.ada_values.specs.declared.values.Value.{Value}
 use Rattle.ada_text.specs.declared.token.Span.{Span}
 use Rattle.name_library.specs.declared.links.Spot.{Spot}
@@ -10,7 +10,6 @@ use Rattle.typed_units.specs.declared.programs.Sub.{Sub}
 use Rattle.typed_units.specs.declared.statements.Stmt.{Stmt}
 use Rattle.type_base.specs.declared.entities.Entity.{Entity}
 use Rattle.type_base.specs.declared.entities.Entity.TheVariants as entity
-use Rattle.type_base.specs.declared.entities.Meaning.{Meaning}
 use Rattle.type_base.specs.declared.world.Component.{Component}
 use Rattle.type_base.specs.declared.world.Discrete.{Discrete}
 use Rattle.type_base.specs.declared.world.Form.{Form}
@@ -20,35 +19,18 @@ use Rattle.type_base.specs.declared.world.Routine.{Routine}
 use Rattle.type_base.specs.declared.world.Subtype.{Subtype}
 use Rattle.type_base.specs.declared.world.World.{World}
 use Rattle.ada_values.specs.declared.scalars.Scalar.{Scalar}
+use Rattle.type_base.specs.Lookups.{with_entity}
 use Rattle.statement_typing.specs.declared.draft.Draft.{Draft}
 use Rattle.statement_typing.specs.Subtypes.{Noted, known, new}
 use Rattle.statement_typing.specs.Types.{Definition, Group, Indexes, array_of, integer, record_of, single}
 
--- a list with another element at a number, where it has one
-abbrev pub with_at : {A : Type 0} → ℕ → A → List A → List A
-with_at n a [] = []
-with_at zero a (x ∷ xs) = a ∷ xs
-with_at (suc n) a (x ∷ xs) = x ∷ with_at n a xs
-
 -- ---- what identifiers stand for
-
-abbrev pub with_meaning : Meaning → List Meaning → List Meaning
-with_meaning m [] = m ∷ []
-with_meaning m (n ∷ ns) = if nat_lt n.at m.at then n ∷ with_meaning m ns else if n.at == m.at then m ∷ ns else m ∷ n ∷ ns
-
-abbrev pub meanings_with : Meaning → Option (List Meaning) → List Meaning
-meanings_with m None = []
-meanings_with m (Some ms) = with_meaning m ms
-
-abbrev pub world_with : Spot → Entity → World → World
-world_with s e w =
-    record w { entities = with_at s.file (meanings_with (record { at = s.at; entity = e }) (slice_get w.entities s.file)) w.entities }
 
 abbrev pub in_world : (World → World) → Draft → Draft
 in_world f d = record d { world = f d.world }
 
 abbrev pub declare : ℕ → Span → Entity → Draft → Draft
-declare file s e d = in_world (world_with (record { file = file; at = s.from }) e) d
+declare file s e d = in_world (λ w. with_entity w (record { file = file; at = s.from }) e) d
 
 -- the identifiers of one declaration
 abbrev pub declare_all : ℕ → List Span → Entity → Draft → Draft

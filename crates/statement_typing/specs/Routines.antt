@@ -25,7 +25,7 @@ use Rattle.statement_typing.specs.declared.draft.Draft.{Draft}
 use Rattle.statement_typing.specs.Checks.{all_of, fault_after, refuse, unless}
 use Rattle.statement_typing.specs.Subtypes.{Noted, known, new, indicated, indicated_faults, is_constrained, name_place}
 use Rattle.statement_typing.specs.Files.{File, Home}
-use Rattle.statement_typing.specs.Drafts.{declare, in_world, with_at}
+use Rattle.statement_typing.specs.Drafts.{declare, in_world}
 use Rattle.statement_typing.specs.Objects.{changed_at}
 
 -- parameters of one mode and one subtype

@@ -33,7 +33,7 @@ use Rattle.type_base.specs.declared.seen.Want.{Want}
 use Rattle.type_base.specs.declared.seen.Want.TheVariants as want
 use Rattle.type_base.specs.declared.world.Routine.{Routine}
 use Rattle.type_base.specs.declared.world.World.{World}
-use Rattle.type_base.specs.Lookups.{routine_at}
+use Rattle.type_base.specs.Lookups.{with_entity}
 use Rattle.type_base.specs.Scope.{Scope}
 use Rattle.type_base.specs.Standard.{boolean}
 use Rattle.syntax_view.specs.Trees as tree
@@ -52,7 +52,6 @@ use Rattle.statement_typing.specs.Subtypes.{heard, name_place, part, part_faults
 use Rattle.statement_typing.specs.Aspects.{condition}
 use Rattle.statement_typing.specs.Pragmas.{checked, checked_faults, ways, ways_faults}
 use Rattle.statement_typing.specs.Choices.{Selected, Spread, choice_seen, choices_faults, cover, cover_faults, has_others, is_others, others_last, selector, selector_want, spreads_in}
-use Rattle.statement_typing.specs.Drafts.{world_with}
 
 -- the innermost loop: its number, and that of its parameter
 pub record Loop : Type 0 where
@@ -180,7 +179,7 @@ pub record Entry : Type 0 where
 
 abbrev pub with_parameter : Scope → Span → Found Between → Scope
 with_parameter c s (Is r) =
-    record c { world = world_with (record { file = (c.place s.from).file; at = s.from }) (entity.Object r.subtype (object.Turn (c.number s.from)) access.LoopParameter) c.world }
+    record c { world = with_entity c.world (record { file = (c.place s.from).file; at = s.from }) (entity.Object r.subtype (object.Turn (c.number s.from)) access.LoopParameter) }
 with_parameter c s Unknown = c
 with_parameter c s (Refused f) = c
 
