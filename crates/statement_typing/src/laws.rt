@@ -34,8 +34,6 @@ pub fn assignments()
     ensures to_a_parameter { breaks (assign 161 (num 200 2)) ≡ refusal rule.L8 161 }
     ensures to_a_loop_parameter { breaks (assign 186 (num 200 2)) ≡ refusal rule.L8 186 }
     ensures of_another_type { breaks (assign 160 (id 262)) ≡ refusal rule.L8 262 }
-    ensures of_an_array { breaks (assign 163 (id 263)) ≡ [] }
-    ensures of_other_bounds { breaks (assign 163 (id 288)) ≡ refusal rule.L8 288 }
     ensures to_what_is_refused { breaks (assign 181 (id 262)) ≡ [] }
     ensures initial_value { local_breaks (an_object 190 false (mark 203) (Some (id 302))) ≡ refusal rule.L8 302 }
     ensures other_initial_value { local_breaks (an_object 190 false (mark 203) (Some (id 360))) ≡ [] }
@@ -43,12 +41,6 @@ pub fn assignments()
 
 /// Conditions, and the arguments of assertions, are Boolean, one each. -- L9
 pub fn conditions()
-    ensures of_a_number { breaks (if_then 500 (id 160) (skip 600) tree.no_stmts) ≡ refusal rule.L9 160 }
-    ensures of_truth { breaks (if_then 500 (id 162) (skip 600) tree.no_stmts) ≡ [] }
-    ensures asserted_number { breaks (pragma_at 500 532 (args (arg 160 (id 160) ∷ [])) tree.no_stmts) ≡ refusal rule.L9 160 }
-    ensures asserted { breaks (pragma_at 500 532 (args (arg 162 (id 162) ∷ [])) tree.no_stmts) ≡ [] }
-    ensures checked { breaks (pragma_at 500 532 (args (with_choice 150 (id 150) (id 162) ∷ [])) tree.no_stmts) ≡ [] }
-    ensures asserted_twice { breaks (pragma_at 500 532 (args (arg 162 (id 162) ∷ arg 262 (id 262) ∷ [])) tree.no_stmts) ≡ refusal rule.L9 262 }
     ensures nothing_asserted { breaks (pragma_at 500 532 tree.no_args tree.no_stmts) ≡ refusal rule.L9 500 }
 {}
 
@@ -65,44 +57,17 @@ pub fn returns()
     ensures another_type { function_breaks (return_value 500 (id 662)) ≡ refusal rule.L13 662 }
     ensures of_a_procedure { breaks (return_value 500 (num 600 1)) ≡ refusal rule.L13 600 }
     ensures no_end { body_breaks (skip 500) ≡ refusal rule.L13 500 }
-    ensures without_else { body_breaks (if_then 500 (id 162) (return_value 600 (num 700 1)) tree.no_stmts) ≡ refusal rule.L13 500 }
-    ensures with_else { body_breaks (if_else 500 (id 162) (return_value 600 (num 700 1)) (return_value 800 (num 900 1))) ≡ [] }
     ensures by_a_loop { body_breaks (loop 500 tree.forever (skip 600)) ≡ [] }
     ensures by_a_loop_with_exit { body_breaks (loop 500 tree.forever (alone 600 (tree.exit None))) ≡ refusal rule.L13 500 }
     ensures by_a_loop_in_a_loop { body_breaks (loop 500 tree.forever (loop 600 tree.forever (alone 700 (tree.exit None)))) ≡ [] }
 {}
 
-/// A case covers each value of its selector's subtype once. -- L21
-pub fn cases()
-    ensures whole { breaks (case_on 500 (id 167) (when (choice_range (id 270) (id 371)) tree.no_alternatives)) ≡ [] }
-    ensures missing { breaks (case_on 500 (id 167) (when (choice (id 270)) (when (choice (id 371)) tree.no_alternatives))) ≡ refusal rule.L21 500 }
-    ensures by_others { breaks (case_on 500 (id 167) (when (choice (id 270)) (when tree.other_values tree.no_alternatives))) ≡ [] }
-    ensures others_first { breaks (case_on 500 (id 167) (when tree.other_values (when (choice (id 270)) tree.no_alternatives))) ≡ refusal rule.L21 500 }
-    ensures twice { breaks (case_on 500 (id 167) (when (choice (id 270)) (when (choice_range (id 370) (id 471)) tree.no_alternatives))) ≡ refusal rule.L21 370 }
-    ensures outside { breaks (case_on 500 (id 180) (when (choice_range (num 200 0) (num 300 10)) tree.no_alternatives)) ≡ refusal rule.L21 200 }
-    ensures by_values { breaks (case_on 500 (id 180) (when (choice (num 200 1)) (when (choice_range (num 300 2) (num 400 10)) tree.no_alternatives))) ≡ [] }
-    ensures not_static { breaks (case_on 500 (id 160) (when (choice (id 260)) (when tree.other_values tree.no_alternatives))) ≡ refusal rule.L21 260 }
-    ensures of_truth { breaks (case_on 500 (id 162) (when tree.other_values tree.no_alternatives)) ≡ refusal rule.L21 162 }
-{}
-
 /// A loop goes over an integer or enumeration range, and `exit` stands inside one. -- L22, L24
 pub fn loops()
-    ensures over_truth { breaks (loop_over 500 190 (between (id 301) (id 402)) (skip 600)) ≡ refusal rule.L22 301 }
     ensures over_numbers { breaks (loop_over 500 190 (between (num 300 1) (num 400 5)) (skip 600)) ≡ [] }
     ensures over_a_subtype { breaks (loop_over 500 190 (tree.range (id 305) tree.no_expr) (skip 600)) ≡ [] }
     ensures over_an_object { breaks (loop_over 500 190 (tree.range (id 360) tree.no_expr) (skip 600)) ≡ refusal rule.L22 360 }
     ensures exit_outside { breaks (alone 500 (tree.exit None)) ≡ refusal rule.L24 500 }
-    ensures exit_inside { breaks (loop 500 tree.forever (alone 600 (tree.exit (Some (id 162))))) ≡ [] }
-{}
-
-/// Invariants and a variant stand in the loop's own list as one group. -- L25
-pub fn groups()
-    ensures outside { breaks (pragma_at 500 534 (args (arg 162 (id 162) ∷ [])) tree.no_stmts) ≡ refusal rule.L25 500 }
-    ensures inside { breaks (loop 500 tree.forever (pragma_at 600 634 (args (arg 162 (id 162) ∷ [])) (pragma_at 700 735 (args (with_choice 752 (id 752) (id 160) ∷ [])) (skip 800)))) ≡ [] }
-    ensures in_a_branch { breaks (loop 500 tree.forever (if_then 600 (id 162) (pragma_at 700 734 (args (arg 262 (id 262) ∷ [])) tree.no_stmts) tree.no_stmts)) ≡ refusal rule.L25 700 }
-    ensures two_groups { breaks (loop 500 tree.forever (pragma_at 600 634 (args (arg 162 (id 162) ∷ [])) (stmt 700 tree.skip (pragma_at 800 834 (args (arg 262 (id 262) ∷ [])) tree.no_stmts)))) ≡ refusal rule.L25 800 }
-    ensures two_variants { breaks (loop 500 tree.forever (pragma_at 600 635 (args (with_choice 652 (id 652) (id 160) ∷ [])) (pragma_at 700 735 (args (with_choice 752 (id 752) (id 260) ∷ [])) tree.no_stmts))) ≡ refusal rule.L25 700 }
-    ensures of_truth { breaks (loop 500 tree.forever (pragma_at 600 635 (args (with_choice 652 (id 652) (id 162) ∷ [])) tree.no_stmts)) ≡ refusal rule.L25 652 }
 {}
 
 /// Parts and objects have constrained subtypes, constants values; initial values at package level are static. -- L20, L26, L27
@@ -117,8 +82,6 @@ pub fn constrained_subtypes()
     ensures without_indexes { local_breaks (an_object 190 false (indexed 574 (num 600 1) (num 700 0)) None) ≡ [] }
     ensures constant_without_value { local_breaks (an_object 190 true (mark 203) None) ≡ refusal rule.L27 190 }
     ensures no_subtype { local_breaks (an_object 190 false (mark 260) None) ≡ refusal rule.L27 260 }
-    ensures of_a_variable { package_breaks (an_object 190 false (mark 203) (Some (id 360))) ≡ refusal rule.L27 360 }
-    ensures of_a_constant { package_breaks (an_object 190 false (mark 203) (Some (id 368))) ≡ [] }
     ensures outside_the_subtype { package_breaks (an_object 190 false (mark 205) (Some (num 300 0))) ≡ refusal rule.L27 300 }
     ensures named_numbers { package_breaks (named_number 190 (id 368)) ≡ [] }
     ensures out_parameter { package_breaks (declared (procedure 190 (param 291 mode.Out (mark 374) ∷ []) [])) ≡ refusal rule.L27 291 }
@@ -128,9 +91,6 @@ pub fn constrained_subtypes()
 /// Aspects stand on the first declaration, each once, and contracts are Boolean; `Global` names globals, each once. -- L28, L30
 pub fn aspects()
     ensures of_a_number { package_breaks (declared (procedure 190 [] (aspect 236 (item 300 (id 369)) ∷ []))) ≡ refusal rule.L28 300 }
-    ensures of_truth { package_breaks (declared (procedure 190 [] (aspect 236 (item 302 (id 302)) ∷ []))) ≡ [] }
-    ensures twice { package_breaks (declared (procedure 190 [] (aspect 236 (item 302 (id 302)) ∷ aspect 436 (item 502 (id 502)) ∷ []))) ≡ refusal rule.L28 436 }
-    ensures on_a_second_declaration { package_breaks (with_body (procedure 178 [] (aspect 236 (item 302 (id 302)) ∷ [])) (skip 500)) ≡ refusal rule.L28 236 }
     ensures without_one { package_breaks (with_body (procedure 178 [] []) (skip 500)) ≡ [] }
     ensures global_of_a_local { package_breaks (declared (procedure 190 [] (aspect 238 (item 360 (id 360)) ∷ []))) ≡ refusal rule.L30 360 }
     ensures global_of_a_variable { package_breaks (declared (procedure 190 [] (aspect 238 (item 383 (id 383)) ∷ []))) ≡ [] }

@@ -1,4 +1,4 @@
-use Rattle.typed_units.specs.declared.expressions.Expr.{fold-roll-Expr, out-roll-Expr}
+use Rattle.typed_units.specs.declared.expressions.Expr.{out-roll-Expr}
 use Rattle.statement_typing.proofs.laws.constrained_subtypes.Goals as goal
 
 pub returns-clause-of_an_item : goal.returns-clause-of_an_item
@@ -18,12 +18,6 @@ returns-clause-outside_the_index c = simp out-roll-Expr
 
 pub returns-clause-without_indexes : goal.returns-clause-without_indexes
 returns-clause-without_indexes c = simp out-roll-Expr
-
-pub returns-clause-of_a_variable : goal.returns-clause-of_a_variable
-returns-clause-of_a_variable c = simp (out-roll-Expr, fold-roll-Expr)
-
-pub returns-clause-of_a_constant : goal.returns-clause-of_a_constant
-returns-clause-of_a_constant c = simp (out-roll-Expr, fold-roll-Expr)
 
 pub returns-clause-outside_the_subtype : goal.returns-clause-outside_the_subtype
 returns-clause-outside_the_subtype c = simp out-roll-Expr
