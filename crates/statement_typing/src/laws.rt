@@ -42,6 +42,8 @@ pub fn assignments()
 /// Conditions, and the arguments of assertions, are Boolean, one each. -- L9
 pub fn conditions()
     ensures nothing_asserted { breaks (pragma_at 500 532 tree.no_args tree.no_stmts) ≡ refusal rule.L9 500 }
+    ensures of_a_number { breaks (if_then 500 (num 160 1) (skip 600) tree.no_stmts) ≡ refusal rule.L9 160 }
+    ensures asserted_number { breaks (pragma_at 500 532 (args (arg 160 (num 160 1) ∷ [])) tree.no_stmts) ≡ refusal rule.L9 160 }
 {}
 
 /// A statement that is a name calls a procedure. -- L10, L12
@@ -68,6 +70,21 @@ pub fn loops()
     ensures over_a_subtype { breaks (loop_over 500 190 (tree.range (id 305) tree.no_expr) (skip 600)) ≡ [] }
     ensures over_an_object { breaks (loop_over 500 190 (tree.range (id 360) tree.no_expr) (skip 600)) ≡ refusal rule.L22 360 }
     ensures exit_outside { breaks (alone 500 (tree.exit None)) ≡ refusal rule.L24 500 }
+    ensures exit_inside { breaks (loop 500 tree.forever (alone 600 (tree.exit None))) ≡ [] }
+{}
+
+/// A `case` selector is of an integer or enumeration type. -- L21
+pub fn selectors()
+    ensures of_a_number { breaks (case_on 500 (num 100 5) (when tree.other_values tree.no_alternatives)) ≡ refusal rule.L21 100 }
+{}
+
+/// A variant stands in the loop's own list, one in a loop. -- L25
+pub fn groups()
+    ensures outside { breaks (pragma_at 500 535 (args (with_choice 652 (id 652) (num 660 1) ∷ [])) tree.no_stmts) ≡ refusal rule.L25 500 }
+    ensures inside { breaks (loop 500 tree.forever (pragma_at 600 635 (args (with_choice 652 (id 652) (num 660 1) ∷ [])) (skip 800))) ≡ [] }
+    ensures two_groups { breaks (loop 500 tree.forever (pragma_at 600 635 (args (with_choice 652 (id 652) (num 660 1) ∷ [])) (stmt 700 tree.skip (pragma_at 800 835 (args (with_choice 852 (id 852) (num 860 1) ∷ [])) tree.no_stmts)))) ≡ refusal rule.L25 800 }
+    ensures two_variants { breaks (loop 500 tree.forever (pragma_at 600 635 (args (with_choice 652 (id 652) (num 660 1) ∷ [])) (pragma_at 700 735 (args (with_choice 752 (id 752) (num 760 1) ∷ [])) tree.no_stmts))) ≡ refusal rule.L25 700 }
+    ensures another_choice { breaks (loop 500 tree.forever (pragma_at 600 635 (args (with_choice 650 (id 650) (num 660 1) ∷ [])) tree.no_stmts)) ≡ refusal rule.L25 650 }
 {}
 
 /// Parts and objects have constrained subtypes, constants values; initial values at package level are static. -- L20, L26, L27
@@ -97,4 +114,6 @@ pub fn aspects()
     ensures global_twice { package_breaks (declared (procedure 190 [] (aspect 238 (item 300 (tree.at (span 300) (tree.group (args (arg 383 (id 383) ∷ arg 483 (id 483) ∷ []))))) ∷ []))) ≡ refusal rule.L30 483 }
     ensures global_by_mode { package_breaks (declared (procedure 190 [] (aspect 238 (item 300 (tree.at (span 300) (tree.group (args (with_choice 355 (id 355) (id 383) ∷ []))))) ∷ []))) ≡ [] }
     ensures global_of_nothing { package_breaks (declared (procedure 190 [] (aspect 238 (item 300 (tree.at (span 300) tree.null)) ∷ []))) ≡ [] }
+    ensures twice { package_breaks (declared (procedure 190 [] (aspect 238 (item 300 (tree.at (span 300) tree.null)) ∷ aspect 438 (item 500 (tree.at (span 500) tree.null)) ∷ []))) ≡ refusal rule.L28 438 }
+    ensures on_a_second_declaration { package_breaks (with_body (procedure 178 [] (aspect 238 (item 300 (tree.at (span 300) tree.null)) ∷ [])) (skip 500)) ≡ refusal rule.L28 238 }
 {}
