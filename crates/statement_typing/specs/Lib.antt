@@ -1,0 +1,17 @@
+pub mod Asked
+pub mod Aspects
+pub mod Cases
+pub mod Checks
+pub mod Choices
+pub mod Counted
+pub mod Drafts
+pub mod Files
+pub mod Numbers
+pub mod Objects
+pub mod Pragmas
+pub mod Routines
+pub mod Statements
+pub mod Subtypes
+pub mod Types
+pub mod Units
+pub mod Values

@@ -1,0 +1,7 @@
+//! The rules of types for declarations, statements, units and a whole program (Ada RM 3, 5, 6, 7; SPARK RM 5.5.3, 6.1.4).
+#![tactic(auto)]
+
+mod draft;
+pub mod laws;
+
+pub use draft::Draft;
