@@ -187,7 +187,7 @@ abbrev pub entry : Scope → tree.LoopHead → Entry
 entry c tree.forever = record { head = Is head.Forever; scope = c; parameter = None }
 entry c (tree.while e) = record { head = with_found head.While (tested c e); scope = c; parameter = None }
 entry c (tree.for s b r) = record {
-  head = with_found (λ x. head.For b (c.number s.from) x.low x.high) (range_seen c L22 want.Free r);
+  head = with_found (λ x. head.For b (record { number = c.number s.from; subtype = x.subtype }) x.low x.high) (range_seen c L22 want.Free r);
   scope = with_parameter c s (range_seen c L22 want.Free r);
   parameter = Some (c.number s.from);
 }
