@@ -1,20 +1,22 @@
 -- How a run ends.
-use Rattle.std.proofs.Common.{◌≡◌, ◌<◌, ◌-◌, ◌^◌, ◌⊎◌, ℕ, sym, subst, length, inl, inr, Bool, true, false, Option, Some, None, Result, Ok, Err, List}
-use Rattle.std.specs.Prelude.{IfOk, if◌then◌else◌}
+use Rattle.std.proofs.Common.{◌≡◌, ◌<◌, ◌≤◌, ◌-◌, ◌+◌, ◌^◌, ◌⊎◌, ℕ, zero, suc, ap, sym, subst, length, arith, inl, inr, Bool, true, false, Option, Some, None, Result, Ok, Err, List, [], ◌∷◌}
+use Rattle.std.specs.Prelude.{IfOk, nat_le, slice_index_or, if◌then◌else◌}
 use Rattle.std.specs.List.{list_all}
 use Rattle.std.specs.Io.KnownBytes.{append_known}
 use Rattle.keeper_io.specs.Maps.{Map}
 use Rattle.ada_syntax.specs.declared.units.SourceUnit.{SourceUnit}
-use Rattle.spark_reader.specs.declared.refusal.ReadRefusal.{ReadRefusal}
-use Rattle.spark_reader.specs.Reads.{Reads}
+use Rattle.front_codes.specs.declared.codes.Refusal.{Refusal}
+use Rattle.unit_front.specs.declared.files.NamedBytes.{NamedBytes}
+use Rattle.unit_front.specs.declared.files.FrontRefusal.TheVariants as front
+use Rattle.unit_front.specs.Reading.{AreShort, HaveFirst, HaveTrees, texts_of}
 use Rattle.first_form.specs.declared.form.FirstForm.{FirstForm}
 use Rattle.first_form.specs.Tree.{form_of}
 use Rattle.first_form.specs.Places.{first_unknown}
 use Rattle.gnatprove_core.specs.declared.status.Status.{Status}
 use Rattle.gnatprove_core.specs.declared.status.Status.TheVariants as status
 use Rattle.gnatprove_core.specs.declared.answer.Answer.{Answer}
-use Rattle.gnatprove_core.specs.Words.{file_of}
-use Rattle.gnatprove_core.specs.Answers.{rows_of, AnswersForm, AnswersTree, AnswersRefusal, AnswersBytes, AnswersFile, AnswersRead, AnswersNamed, Answers, Ends}
+use Rattle.gnatprove_core.specs.Words.{files_of}
+use Rattle.gnatprove_core.specs.Answers.{rows_of, AnswersForm, AnswersFrom, AnswersMany, AnswersTree, AnswersTrees, AnswersRead, AnswersSized, AnswersNamed, Answers, Ends, RefusesAt, most_files, most_source_bytes, name_at, source_bytes, with_file}
 
 -- an answer has one of the statuses that an answer can have
 abbrev pub IsWritten : Status → Type 0
@@ -37,25 +39,37 @@ tree_is : (name : List ℕ) (o : Option FirstForm) (s : Status) (text : List ℕ
 tree_is name None s text a = refused_is s a.0
 tree_is name (Some f) s text a = form_is name f (first_unknown f) s text a
 
-read_or_refused_is : (name bytes : List ℕ) (s : Status) (text : List ℕ)
-    → ((r : ReadRefusal) × AnswersRefusal name bytes r s text) ⊎ ((u : SourceUnit) × Reads bytes u × AnswersTree name (form_of bytes u) s text) → IsWritten s
-read_or_refused_is name bytes s text (inl a) = refused_is s a.1.1.0
-read_or_refused_is name bytes s text (inr a) = tree_is name (form_of bytes a.0) s text a.2
+trees_are : (got : List NamedBytes) (us : List SourceUnit) (s : Status) (text : List ℕ) → AnswersTrees got us s text → IsWritten s
+trees_are [] us s text a = refused_is s a.0
+trees_are (g ∷ []) [] s text a = refused_is s a.0
+trees_are (g ∷ []) (u ∷ []) s text a = tree_is g.name (form_of g.bytes u) s text a
+trees_are (g ∷ []) (u ∷ v ∷ us) s text a = refused_is s a.0
+trees_are (g ∷ h ∷ gs) us s text a = refused_is s a.0
 
-bytes_is : (name bytes : List ℕ) (s : Status) (text : List ℕ) → AnswersBytes name bytes s text → IsWritten s
-bytes_is name bytes s text a = read_or_refused_is name bytes s text a.1
+read_is : (got : List NamedBytes) (s : Status) (text : List ℕ) → AnswersRead got s text → IsWritten s
+read_is got s text (inl a) = refused_is s a.2.0
+read_is got s text (inr a) = trees_are got a.0 s text a.2
 
-file_is : (name : List ℕ) (o : Option (List ℕ)) (s : Status) (text : List ℕ) → AnswersFile name o s text → IsWritten s
-file_is name None s text a = refused_is s a.0
-file_is name (Some bytes) s text a = bytes_is name bytes s text a
+limit_is : (s : Status) → s ≡ status.Limit → IsWritten s
+limit_is s e = subst IsWritten (sym e) tt
 
-read_is : (told : Option Map) (name : List ℕ) (s : Status) (text : List ℕ) → AnswersRead told name s text → IsWritten s
-read_is told name status.ReadFault text a = tt
-read_is told name s text a = file_is name a.0 s text a.2
+sized_is : (b : Bool) (got : List NamedBytes) (s : Status) (text : List ℕ) → AnswersSized b got s text → IsWritten s
+sized_is true got s text a = read_is got s text a
+sized_is false got s text a = limit_is s a.0
 
-named_is : (told : Option Map) (o : Option (List ℕ)) (s : Status) (text : List ℕ) → AnswersNamed told o s text → IsWritten s
+from_is : (told : Option Map) (got : List NamedBytes) (names : List (List ℕ)) (s : Status) (text : List ℕ) → AnswersFrom told got names s text → IsWritten s
+from_is told got [] s text a = sized_is (nat_le (source_bytes got) most_source_bytes) got s text a
+from_is told got (name ∷ names) s text (inl a) = subst IsWritten (sym a.0) tt
+from_is told got (name ∷ names) s text (inr (inl a)) = refused_is s a.1.0
+from_is told got (name ∷ names) s text (inr (inr a)) = from_is told (with_file got name a.0) names s text a.2
+
+many_is : (b : Bool) (told : Option Map) (names : List (List ℕ)) (s : Status) (text : List ℕ) → AnswersMany b told names s text → IsWritten s
+many_is true told names s text a = from_is told [] names s text a
+many_is false told names s text a = limit_is s a.0
+
+named_is : (told : Option Map) (o : Option (List (List ℕ))) (s : Status) (text : List ℕ) → AnswersNamed told o s text → IsWritten s
 named_is told None s text a = subst IsWritten (sym a.0) tt
-named_is told (Some name) s text a = read_is told name s text a
+named_is told (Some names) s text a = many_is (nat_le (length names) most_files) told names s text a
 
 written_ends : (told : Option Map) (words : List (List ℕ)) (s : Status) (text : List ℕ) (before after : Option (List ℕ)) → IsWritten s → Answers told words s text
     → after ≡ append_known before text → Ends told words s before after
@@ -66,30 +80,35 @@ written_ends told words s text before after w a e = (text, a, e)
 -- the whole answer was written
 pub ends_whole : (told : Option Map) (words : List (List ℕ)) (s : Status) (text : List ℕ) (before after : Option (List ℕ)) → Answers told words s text
     → after ≡ append_known before text → Ends told words s before after
-ends_whole told words s text before after a e = written_ends told words s text before after (named_is told (file_of words) s text a) a e
+ends_whole told words s text before after a e = written_ends told words s text before after (named_is told (files_of words) s text a) a e
 
 written_is : (told : Option Map) (words : List (List ℕ)) (s : Status) (text : List ℕ) → Answers told words s text → IsWritten s
-written_is told words s text a = named_is told (file_of words) s text a
+written_is told words s text a = named_is told (files_of words) s text a
 
 -- an answer has no status of a sink that failed
 pub not_cut : {P : Type 0} (told : Option Map) (words : List (List ℕ)) (s : Status) (text : List ℕ) → Answers told words s text → s ≡ status.WriteFault → P
 not_cut told words s text a e = absurd (subst IsWritten e (written_is told words s text a))
 
--- bytes that are refused
-pub refusal_answer : {E : Type 0} (name bytes : List ℕ) (reason : ReadRefusal) (r : Result Answer E) → length bytes < 2 ^ 32 - 1
-    → IfOk r (λ a. AnswersRefusal name bytes reason a.status a.text) → IfOk r (λ a. AnswersBytes name bytes a.status a.text)
-refusal_answer name bytes reason (Ok a) short w = (short, inl (reason, w))
-refusal_answer name bytes reason (Err e) short w = tt
+-- the answer to files that are refused, and to those that have trees
+pub refusal_answer : {E : Type 0} (got : List NamedBytes) (f : Refusal) (r : Result Answer E) → HaveFirst (texts_of got) (front.Refused f)
+    → IfOk r (λ a. RefusesAt got f a.status a.text) → IfOk r (λ a. AnswersRead got a.status a.text)
+refusal_answer got f (Ok a) h w = inl (f, h, w)
+refusal_answer got f (Err e) h w = tt
 
--- bytes that are the text of a tree
-pub tree_answer : {E : Type 0} (name bytes : List ℕ) (u : SourceUnit) (r : Result Answer E) → length bytes < 2 ^ 32 - 1 → Reads bytes u
-    → IfOk r (λ a. AnswersTree name (form_of bytes u) a.status a.text) → IfOk r (λ a. AnswersBytes name bytes a.status a.text)
-tree_answer name bytes u (Ok a) short h w = (short, inr (u, h, w))
-tree_answer name bytes u (Err e) short h w = tt
+pub trees_answer : {E : Type 0} (got : List NamedBytes) (us : List SourceUnit) (r : Result Answer E) → HaveTrees (texts_of got) us
+    → IfOk r (λ a. AnswersTrees got us a.status a.text) → IfOk r (λ a. AnswersRead got a.status a.text)
+trees_answer got us (Ok a) h w = inr (us, h, w)
+trees_answer got us (Err e) h w = tt
 
--- bytes that the keeper holds
-pub file_answer : {E : Type 0} (name : List ℕ) (found : Option (List ℕ)) (bytes slice : List ℕ) (r : Result Answer E) → found ≡ Some bytes → slice ≡ bytes
-    → IfOk r (λ a. AnswersBytes name slice a.status a.text) → IfOk r (λ a. AnswersFile name found a.status a.text)
-file_answer name found bytes slice (Ok a) e s w =
-    subst (λ (o : Option (List ℕ)). AnswersFile name o a.status a.text) (sym e) (subst (λ (x : List ℕ). AnswersBytes name x a.status a.text) s w)
-file_answer name found bytes slice (Err f) e s w = tt
+-- texts within the limit of all bytes are short
+pub short_one : (g : NamedBytes) (gs : List NamedBytes) → source_bytes (g ∷ gs) ≤ most_source_bytes → length g.bytes < 2 ^ 32 - 1
+short_one g gs h = omega (arith, h)
+
+pub short_all : (gs : List NamedBytes) → source_bytes gs ≤ most_source_bytes → AreShort (texts_of gs)
+short_all [] h = tt
+short_all (g ∷ gs) h = (short_one g gs h, short_all gs (omega (arith, h)))
+
+pub named_here : (gs : List NamedBytes) (k : ℕ) (g : NamedBytes) → k < length gs → slice_index_or gs k g ≡ g → name_at gs k ≡ g.name
+named_here [] k g h e = absurd (omega arith)
+named_here (f ∷ gs) zero g h e = ap (λ (x : NamedBytes). x.name) e
+named_here (f ∷ gs) (suc k) g h e = named_here gs k g (omega arith) e

@@ -1,4 +1,5 @@
-pub mod Soundness
+pub mod Only
 pub mod Ending
+pub mod Soundness
 pub mod Complete
-pub mod Refusals
+pub mod Getting

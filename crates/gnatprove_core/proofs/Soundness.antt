@@ -1,5 +1,6 @@
 -- A line that calls a check proved is the row of a site at which no run fails first.
 use Rattle.std.proofs.Common.{◌≡◌, ◌≢◌, ℕ, zero, suc, ◌<◌, ◌-◌, ◌^◌, refl, ap, sym, subst, ◌∙◌, ◌⊎◌, inl, inr, Bool, true, false, Option, Some, None, List, [], ◌∷◌, ◌++◌, ◌+◌, map, take, length, arith, append_assoc}
+use Rattle.std.proofs.lemmas.Bool.{leb-true}
 use Rattle.std.proofs.lemmas.List.{append_cancel_left}
 use Rattle.std.specs.Prelude.{not, ◌&&◌, ◌==◌, nat_le, codes, slice_index_or, Contains, All, if◌then◌else◌}
 use Rattle.std.specs.List.{list_all}
@@ -11,9 +12,7 @@ use Rattle.ada_semantics.specs.Plain.{fails}
 use Rattle.keeper_io.specs.Maps.{Map, entry_of}
 use Rattle.ada_values.specs.declared.place.Place.{Place}
 use Rattle.ada_syntax.specs.declared.units.SourceUnit.{SourceUnit}
-use Rattle.spark_reader.specs.declared.refusal.ReadRefusal.{ReadRefusal}
-use Rattle.spark_reader.specs.Reads.{Reads}
-use Rattle.spark_reader.proofs.Only.{one_tree, not_both}
+use Rattle.spark_reader.proofs.Only.{one_tree}
 use Rattle.first_form.specs.declared.form.FirstForm.{FirstForm}
 use Rattle.first_form.specs.declared.form.Assertion.{Assertion}
 use Rattle.first_form.specs.Places.{first_unknown}
@@ -38,9 +37,12 @@ use Rattle.gnat_report.proofs.Parts.{fault_lines_differ}
 use Rattle.gnat_report.proofs.Reports.{lines_read_back}
 use Rattle.gnatprove_core.specs.declared.status.Status.{Status}
 use Rattle.gnatprove_core.specs.declared.status.Status.TheVariants as status
-use Rattle.gnatprove_core.specs.Words.{is_file_byte, is_file_name, file_of}
-use Rattle.gnatprove_core.specs.Texts.{read_fault_text}
-use Rattle.gnatprove_core.specs.Answers.{row_status, row_in, rows_of, Reports, AnswersForm, AnswersTree, AnswersRefusal, AnswersBytes, AnswersFile, AnswersRead, AnswersNamed, Answers, Ends}
+use Rattle.gnatprove_core.specs.Words.{are_names, is_file_byte, is_file_name, files_of}
+use Rattle.gnatprove_core.specs.Texts.{read_fault_text, limit_text}
+use Rattle.gnatprove_core.specs.Answers.{row_status, row_in, rows_of, Reports, AnswersForm, AnswersFrom, AnswersGot, AnswersTree, AnswersTrees, AnswersRead, AnswersSized, AnswersNamed, Answers, Ends, most_source_bytes, source_bytes}
+use Rattle.gnatprove_core.proofs.Ending.{short_one}
+use Rattle.gnatprove_core.proofs.Only as Only
+use Rattle.unit_front.specs.declared.files.NamedBytes.{NamedBytes}
 use Rattle.form_prover.specs.Sound.{NeverFailsAt}
 use Rattle.gnatprove_core.specs.Sound.{Accepted, CallsProved, IsSound}
 
@@ -67,19 +69,16 @@ file_name_is_row_name (c ∷ cs) h =
     let d = both (not (c == 45)) (list_all is_file_byte (c ∷ cs)) e.0 in
     all_file_bytes (c ∷ cs) d.1
 
-named : (word name : List ℕ) (b : Bool) (x : List ℕ) → (if b && is_file_name name then Some name else None) ≡ Some x → is_file_name x ≡ true
-named word name true x h = given (is_file_name name) refl h
-  where
-    given : (t : Bool) → is_file_name name ≡ t → (if t then Some name else None) ≡ Some x → is_file_name x ≡ true
-    given true e g = let d : name ≡ x = cc in ap is_file_name (sym d) ∙ e
-    given false e g = cc
-named word name false x h = cc
+is_named : (b c : Bool) (names : List (List ℕ)) (x : List (List ℕ)) → (if b && c then Some names else None) ≡ Some x → (names ≡ x) × (c ≡ true)
+is_named true true names x h = let d : names ≡ x = cc in (d, refl)
+is_named true false names x h = cc
+is_named false c names x h = cc
 
-file_is_named : (words : List (List ℕ)) (name : List ℕ) → file_of words ≡ Some name → is_file_name name ≡ true
+file_is_named : (words : List (List ℕ)) (name : List ℕ) → files_of words ≡ Some (name ∷ []) → is_file_name name ≡ true
 file_is_named [] name h = cc
-file_is_named (w ∷ []) name h = cc
-file_is_named (w ∷ n ∷ []) name h = named w n (bytes_eq w (codes "prove")) name h
-file_is_named (w ∷ n ∷ m ∷ ws) name h = cc
+file_is_named (w ∷ names) name h =
+    let e = is_named (bytes_eq w (codes "prove")) (are_names names) names (name ∷ []) h in
+    (both (is_file_name name) true (ap are_names (sym e.0) ∙ e.1)).0
 
 -- ---- the rows of the report
 
@@ -178,7 +177,7 @@ report_sound name n f inside full e k c z place h params globals budget fit run 
     let proved : m.from.proved ≡ true = status_proved m.from.proved (ap (λ (x : Row). x.status) m.gives ∙ said.status) in
     rows_hold f m.from (a.0, m.within, m.there) proved params globals budget fit (run ∙ ap fails (sym same))
 
--- ---- the line of a read fault
+-- ---- lines that stand in place of a report
 
 sole : (line other : List ℕ) (k : ℕ) → k < length (line ∷ []) → slice_index_or (line ∷ []) k other ≡ other → other ≡ line
 sole line other zero h e = sym e
@@ -191,54 +190,73 @@ no_lines : (j : ℕ) → whole_lines (take j []) ≡ []
 no_lines zero = refl
 no_lines (suc j) = refl
 
-no_row_in_fault : (name : List ℕ) → IsRowName name → (k : ℕ) (r : Row) → IsRowName r.name → Contains (whole_lines (take k (read_fault_text name))) (row_line r) → ⊥
-no_row_in_fault name n k r i h =
-    let line = codes "gnatprove: read fault: " ++ name in
-    let lacks : Lacks 10 line = Lacks-append 10 (codes "gnatprove: read fault: ") name (Lacks-from_test 10 (codes "gnatprove: read fault: ") refl)
-    (Lacks-from_All (λ c. (c ≢ 58) × (c ≢ 10)) 10 (λ c p. p.1) name n) in
-    let text : read_fault_text name ≡ line ++ 10 ∷ [] = sym (append_assoc (codes "gnatprove: read fault: ") name (10 ∷ [])) in
-    let there = subst (λ (t : List ℕ). Contains (whole_lines (take k t)) (row_line r)) text h in
+-- a line that begins with the program's name is no row
+no_row_in_line : (rest : List ℕ) → Lacks 10 rest → (text : List ℕ) → text ≡ codes "gnatprove: " ++ (rest ++ 10 ∷ []) → (k : ℕ) (r : Row) → IsRowName r.name
+    → Contains (whole_lines (take k text)) (row_line r) → ⊥
+no_row_in_line rest l text same k r i h =
+    let line = codes "gnatprove: " ++ rest in
+    let lacks : Lacks 10 line = Lacks-append 10 (codes "gnatprove: ") rest (Lacks-from_test 10 (codes "gnatprove: ") refl) l in
+    let is : text ≡ line ++ 10 ∷ [] = same ∙ sym (append_assoc (codes "gnatprove: ") rest (10 ∷ [])) in
+    let there = subst (λ (t : List ℕ). Contains (whole_lines (take k t)) (row_line r)) is h in
     elim (cut_in line [] k lacks) [
       | inl e ↦ let g = subst (λ (ls : List (List ℕ)). Contains ls (row_line r)) e there in absurd (omega (arith, g.1))
-      | inr e ↦ fault_lines_differ r (codes "read fault: " ++ name) i
+      | inr e ↦ fault_lines_differ r rest i
           (one_line line (row_line r) (subst (λ (ls : List (List ℕ)). Contains ls (row_line r)) (e.1 ∙ ap (λ (ls : List (List ℕ)). line ∷ ls) (no_lines e.0)) there))
     ]
 
+no_row_in_fault : (name : List ℕ) → IsRowName name → (text : List ℕ) → text ≡ read_fault_text name → (k : ℕ) (r : Row) → IsRowName r.name
+    → Contains (whole_lines (take k text)) (row_line r) → ⊥
+no_row_in_fault name n text e =
+    no_row_in_line (codes "read fault: " ++ name)
+    (Lacks-append 10 (codes "read fault: ") name (Lacks-from_test 10 (codes "read fault: ") refl) (Lacks-from_All (λ c. (c ≢ 58) × (c ≢ 10)) 10 (λ c p. p.1) name n))
+    text e
+
+no_row_in_limit : (text : List ℕ) → text ≡ limit_text (codes "source bytes") → (k : ℕ) (r : Row) → IsRowName r.name → Contains (whole_lines (take k text)) (row_line r) → ⊥
+no_row_in_limit text e = no_row_in_line (codes "limit: source bytes") (Lacks-from_test 10 (codes "limit: source bytes") refl) text e
+
 -- ---- the answer
 
+abbrev Sound : List ℕ → FirstForm → List ℕ → Type 0
+Sound name f full = (k : ℕ) (c : SiteKey) → c.place.file ≡ 0 → IsPlace c.place → CallsProved (take k full) name c → NeverFailsAt f c
+
+abbrev file_named : List ℕ → List ℕ → NamedBytes
+file_named name bytes = record { name = name; bytes = bytes }
+
 tree_sound : (name bytes : List ℕ) → IsRowName name → length bytes < 2 ^ 32 - 1 → (f : FirstForm) → Accepted bytes f → (s : Status) (full : List ℕ)
-    → ((r : ReadRefusal) × AnswersRefusal name bytes r s full) ⊎ ((u : SourceUnit) × Reads bytes u × AnswersTree name (form_of bytes u) s full)
-    → (k : ℕ) (c : SiteKey) → c.place.file ≡ 0 → IsPlace c.place → CallsProved (take k full) name c → NeverFailsAt f c
-tree_sound name bytes n short f a s full (inl w) k c z place h = absurd (not_both bytes a.0 w.0 a.1 w.1.0)
-tree_sound name bytes n short f a s full (inr w) k c z place h =
-    let form : form_of bytes w.0 ≡ Some f = ap (form_of bytes) (one_tree bytes w.0 a.0 w.1 a.1) ∙ a.2 in
-    let answers : AnswersForm name f (first_unknown f) s full = subst (λ (o : Option FirstForm). AnswersTree name o s full) form w.2 in
+    → (us : List SourceUnit) → Only.IsTreeOf bytes us → AnswersTrees (file_named name bytes ∷ []) us s full → Sound name f full
+tree_sound name bytes n short f a s full us only w k c z place h =
+    let answered : AnswersTree name (form_of bytes only.0) s full = subst (λ (vs : List SourceUnit). AnswersTrees (file_named name bytes ∷ []) vs s full) only.1 w in
+    let form : form_of bytes only.0 ≡ Some f = ap (form_of bytes) (one_tree bytes only.0 a.0 only.2 a.1) ∙ a.2 in
+    let answers : AnswersForm name f (first_unknown f) s full = subst (λ (o : Option FirstForm). AnswersTree name o s full) form answered in
     let reports : Reports name f s full = subst (λ (o : Option (ℕ × ℕ)). AnswersForm name f o s full) a.3 answers in
     report_sound name n f (places_are_in_file bytes a.0 f short a.2) full reports.1 k c z place h
 
-form_sound : (name bytes : List ℕ) → IsRowName name → (f : FirstForm) → Accepted bytes f → (s : Status) (full : List ℕ) → AnswersBytes name bytes s full
-    → (k : ℕ) (c : SiteKey) → c.place.file ≡ 0 → IsPlace c.place → CallsProved (take k full) name c → NeverFailsAt f c
-form_sound name bytes n f a s full w k c z place h = tree_sound name bytes n w.0 f a s full w.1 k c z place h
+read_sound : (name bytes : List ℕ) → IsRowName name → length bytes < 2 ^ 32 - 1 → (f : FirstForm) → Accepted bytes f → (s : Status) (full : List ℕ)
+    → AnswersRead (file_named name bytes ∷ []) s full → Sound name f full
+read_sound name bytes n short f a s full (inl w) k c z place h = absurd (Only.no_refusal bytes w.0 a.0 a.1 w.1)
+read_sound name bytes n short f a s full (inr w) k c z place h = tree_sound name bytes n short f a s full w.0 (Only.only_tree bytes w.0 w.1) w.2 k c z place h
 
-found_sound : (name bytes : List ℕ) → IsRowName name → (f : FirstForm) → Accepted bytes f → (o : Option (List ℕ)) → o ≡ Some bytes → (s : Status) (full : List ℕ)
-    → AnswersFile name o s full → (k : ℕ) (c : SiteKey) → c.place.file ≡ 0 → IsPlace c.place → CallsProved (take k full) name c → NeverFailsAt f c
-found_sound name bytes n f a None e s full w k c z place h = cc
-found_sound name bytes n f a (Some b) e s full w k c z place h =
-    let d : b ≡ bytes = cc in
-    form_sound name bytes n f a s full (subst (λ (x : List ℕ). AnswersBytes name x s full) d w) k c z place h
+sized_sound : (name bytes : List ℕ) → IsRowName name → (f : FirstForm) → Accepted bytes f → (s : Status) (full : List ℕ)
+    → (b : Bool) → nat_le (source_bytes (file_named name bytes ∷ [])) most_source_bytes ≡ b → AnswersSized b (file_named name bytes ∷ []) s full → Sound name f full
+sized_sound name bytes n f a s full true e w k c z place h =
+    read_sound name bytes n (short_one (file_named name bytes) [] (leb-true (source_bytes (file_named name bytes ∷ [])) most_source_bytes e)) f a s full w k c z place h
+sized_sound name bytes n f a s full false e w k c z place h = absurd (no_row_in_limit full w.1 k (record { name = name; key = c; status = row.Proved }) n h)
 
-read_sound : (m : Map) (name bytes : List ℕ) → IsRowName name → entry_of m name ≡ Some bytes → (f : FirstForm) → Accepted bytes f → (s : Status) (full : List ℕ)
-    → AnswersRead (Some m) name s full → (k : ℕ) (c : SiteKey) → c.place.file ≡ 0 → IsPlace c.place → CallsProved (take k full) name c → NeverFailsAt f c
-read_sound m name bytes n e f a status.ReadFault full w k c z place h =
-    absurd (no_row_in_fault name n k (record { name = name; key = c; status = row.Proved }) n
-    (subst (λ (t : List ℕ). Contains (whole_lines (take k t)) (row_line (record { name = name; key = c; status = row.Proved }))) w h))
-read_sound m name bytes n e f a s full w k c z place h = found_sound name bytes n f a w.0 (sym w.1 ∙ e) s full w.2 k c z place h
+from_sound : (m : Map) (name bytes : List ℕ) → IsRowName name → entry_of m name ≡ Some bytes → (f : FirstForm) → Accepted bytes f → (s : Status) (full : List ℕ)
+    → AnswersFrom (Some m) [] (name ∷ []) s full → Sound name f full
+from_sound m name bytes n e f a s full (inl w) k c z place h = absurd (no_row_in_fault name n full w.1 k (record { name = name; key = c; status = row.Proved }) n h)
+from_sound m name bytes n e f a s full (inr (inl w)) k c z place h = let d : None ≡ Some bytes = sym w.0 ∙ e in cc
+from_sound m name bytes n e f a s full (inr (inr w)) k c z place h =
+    let d : Some w.0 ≡ Some bytes = sym w.1 ∙ e in
+    let same : w.0 ≡ bytes = cc in
+    sized_sound name bytes n f a s full (nat_le (source_bytes (file_named name bytes ∷ [])) most_source_bytes) refl
+    (subst (λ (x : List ℕ). AnswersGot (file_named name x ∷ []) s full) same w.2) k c z place h
 
-answer_sound : (m : Map) (words : List (List ℕ)) (name bytes : List ℕ) → file_of words ≡ Some name → entry_of m name ≡ Some bytes → (f : FirstForm) → Accepted bytes f
-    → (s : Status) (full : List ℕ) → Answers (Some m) words s full → (k : ℕ) (c : SiteKey) → c.place.file ≡ 0 → IsPlace c.place → CallsProved (take k full) name c → NeverFailsAt f c
+answer_sound : (m : Map) (words : List (List ℕ)) (name bytes : List ℕ) → files_of words ≡ Some (name ∷ []) → entry_of m name ≡ Some bytes → (f : FirstForm) → Accepted bytes f
+    → (s : Status) (full : List ℕ) → Answers (Some m) words s full → Sound name f full
 answer_sound m words name bytes w e f a s full h k c z place p =
-    read_sound m name bytes (file_name_is_row_name name (file_is_named words name w)) e f a s full
-    (subst (λ (o : Option (List ℕ)). AnswersNamed (Some m) o s full) w h) k c z place p
+    from_sound m name bytes (file_name_is_row_name name (file_is_named words name w)) e f a s full
+    (subst (λ (o : Option (List (List ℕ))). AnswersNamed (Some m) o s full) w h) k c z place p
 
 -- ---- what a run wrote
 

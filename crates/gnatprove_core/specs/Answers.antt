@@ -1,19 +1,16 @@
 -- What the program answers: a status, and the text that it writes.
-use Rattle.std.specs.Prelude.{◌≡◌, ◌<◌, ◌-◌, ◌^◌, ℕ, Bool, true, false, ◌⊎◌, Option, Some, None, List, [], map, length, codes, if◌then◌else◌}
+use Rattle.std.specs.Prelude.{◌≡◌, ℕ, zero, suc, ◌+◌, ◌++◌, Bool, true, false, ◌⊎◌, nat_le, Option, Some, None, List, [], ◌∷◌, map, length, codes, if◌then◌else◌}
 use Rattle.std.specs.List.{list_all}
 use Rattle.std.specs.Io.KnownBytes.{append_known}
 use Rattle.keeper_io.specs.Causes.{Rose}
 use Rattle.keeper_io.specs.Maps.{Map, Holds}
 use Rattle.keeper_io.specs.Pieces.{AddsPart}
-use Rattle.ada_text.specs.declared.token.LexFault.{LexFault}
-use Rattle.ada_text.specs.declared.token.LexFault.TheVariants as lex
-use Rattle.ada_text.specs.Places.{line_after, column_after, counted_before}
-use Rattle.grammar_table.specs.declared.answers.SyntaxFault.{SyntaxFault}
-use Rattle.grammar_table.specs.declared.answers.SyntaxFault.TheVariants as syntax
 use Rattle.ada_syntax.specs.declared.units.SourceUnit.{SourceUnit}
-use Rattle.spark_reader.specs.declared.refusal.ReadRefusal.{ReadRefusal}
-use Rattle.spark_reader.specs.declared.refusal.ReadRefusal.TheVariants as refusal
-use Rattle.spark_reader.specs.Reads.{Reads, Refuses as RefusesText, place_of}
+use Rattle.front_codes.specs.declared.codes.Refusal.{Refusal}
+use Rattle.front_codes.specs.Words.{word_of}
+use Rattle.unit_front.specs.declared.files.NamedBytes.{NamedBytes}
+use Rattle.unit_front.specs.declared.files.FrontRefusal.TheVariants as front
+use Rattle.unit_front.specs.Reading.{HaveFirst, HaveTrees, texts_of}
 use Rattle.first_form.specs.declared.form.FirstForm.{FirstForm}
 use Rattle.first_form.specs.Tree.{form_of}
 use Rattle.first_form.specs.Places.{first_unknown}
@@ -25,9 +22,9 @@ use Rattle.gnat_report.specs.declared.rows.RowStatus.{RowStatus}
 use Rattle.gnat_report.specs.declared.rows.RowStatus.TheVariants as row
 use Rattle.gnat_report.specs.Text.{report_text_of}
 use Rattle.gnatprove_core.specs.declared.status.Status.{Status}
-use Rattle.gnatprove_core.specs.declared.status.Status.TheVariants.{Proved, Unproved, Refused, Usage, ReadFault, WriteFault, Starved}
-use Rattle.gnatprove_core.specs.Words.{file_of}
-use Rattle.gnatprove_core.specs.Texts.{usage_text, no_file_text, read_fault_text, error_text}
+use Rattle.gnatprove_core.specs.declared.status.Status.TheVariants.{Proved, Unproved, Refused, Usage, ReadFault, WriteFault, Starved, Limit}
+use Rattle.gnatprove_core.specs.Words.{files_of}
+use Rattle.gnatprove_core.specs.Texts.{usage_text, no_file_text, read_fault_text, limit_text, error_text}
 
 -- ---- the report
 
@@ -65,67 +62,81 @@ abbrev pub AnswersTree : List ℕ → Option FirstForm → Status → List ℕ �
 AnswersTree name None status text = Refuses name 1 1 (codes "NotBuilt") status text
 AnswersTree name (Some f) status text = AnswersForm name f (first_unknown f) status text
 
--- a refusal that has a place, and is no want of memory
-abbrev pub IsLexTold : LexFault → Type 0
-IsLexTold lex.Starved = ⊥
-IsLexTold f = Unit {0}
+-- ---- the files
 
-abbrev pub IsSyntaxTold : SyntaxFault → Type 0
-IsSyntaxTold syntax.Starved = ⊥
-IsSyntaxTold f = Unit {0}
+-- the name of the file of this number
+abbrev pub name_at : List NamedBytes → ℕ → List ℕ
+name_at [] k = []
+name_at (g ∷ gs) zero = g.name
+name_at (g ∷ gs) (suc k) = name_at gs k
 
-abbrev pub IsTold : ReadRefusal → Type 0
-IsTold (refusal.Lex f) = IsLexTold f
-IsTold (refusal.Syntax f at) = IsSyntaxTold f
-IsTold refusal.Starved = ⊥
+-- the first refusal of the texts
+abbrev pub RefusesAt : List NamedBytes → Refusal → Status → List ℕ → Type 0
+RefusesAt got r status text = Refuses (name_at got r.place.file) r.place.line r.place.column (word_of r.code) status text
 
-abbrev pub lex_code : LexFault → List ℕ
-lex_code (lex.BadByte at) = codes "BadByte"
-lex_code (lex.BadNumber at) = codes "BadNumber"
-lex_code (lex.TooWide at) = codes "TooWide"
-lex_code lex.Starved = []
+-- what isn't of the form is refused at the start of the first file
+abbrev pub AnswersTrees : List NamedBytes → List SourceUnit → Status → List ℕ → Type 0
+AnswersTrees (g ∷ []) (u ∷ []) status text = AnswersTree g.name (form_of g.bytes u) status text
+AnswersTrees got us status text = Refuses (name_at got 0) 1 1 (codes "NotBuilt") status text
 
-abbrev pub syntax_code : SyntaxFault → List ℕ
-syntax_code (syntax.Unexpected k) = codes "Unexpected"
-syntax_code (syntax.TooDeep k) = codes "TooDeep"
-syntax_code syntax.Starved = []
+-- the texts are refused, or each is that of a tree
+abbrev pub AnswersRead : List NamedBytes → Status → List ℕ → Type 0
+AnswersRead got status text =
+    ((r : Refusal) × HaveFirst (texts_of got) (front.Refused r) × RefusesAt got r status text)
+    ⊎ ((us : List SourceUnit) × HaveTrees (texts_of got) us × AnswersTrees got us status text)
 
-abbrev pub code_of : ReadRefusal → List ℕ
-code_of (refusal.Lex f) = lex_code f
-code_of (refusal.Syntax f at) = syntax_code f
-code_of refusal.Starved = []
+abbrev pub PassesLimit : List ℕ → Status → List ℕ → Type 0
+PassesLimit quantity status text = (status ≡ Limit) × (text ≡ limit_text quantity)
 
--- the first error of the bytes, at the line and the column of its place
-abbrev pub AnswersRefusal : List ℕ → List ℕ → ReadRefusal → Status → List ℕ → Type 0
-AnswersRefusal name bytes r status text =
-    let front = counted_before bytes (place_of bytes r) in
-    RefusesText bytes r × Refuses name (line_after front) (column_after front) (code_of r) status text
+-- the bytes of all files
+abbrev pub source_bytes : List NamedBytes → ℕ
+source_bytes [] = 0
+source_bytes (g ∷ gs) = length g.bytes + source_bytes gs
 
--- the bytes are refused, or they are the text of a tree; a file of 2 ** 32 - 1 bytes or more is answered as without memory
-abbrev pub AnswersBytes : List ℕ → List ℕ → Status → List ℕ → Type 0
-AnswersBytes name bytes status text =
-    (length bytes < 2 ^ 32 - 1)
-    × (((r : ReadRefusal) × AnswersRefusal name bytes r status text)
-    ⊎ ((u : SourceUnit) × Reads bytes u × AnswersTree name (form_of bytes u) status text))
+abbrev pub most_source_bytes : ℕ
+most_source_bytes = 1048576
 
-abbrev pub AnswersFile : List ℕ → Option (List ℕ) → Status → List ℕ → Type 0
-AnswersFile name None status text = (status ≡ Refused) × (text ≡ no_file_text name)
-AnswersFile name (Some bytes) status text = AnswersBytes name bytes status text
+abbrev pub most_files : ℕ
+most_files = 64
+
+abbrev pub AnswersSized : Bool → List NamedBytes → Status → List ℕ → Type 0
+AnswersSized true got status text = AnswersRead got status text
+AnswersSized false got status text = PassesLimit (codes "source bytes") status text
+
+-- files that were got, of which there may be too many bytes
+abbrev pub AnswersGot : List NamedBytes → Status → List ℕ → Type 0
+AnswersGot got status text = AnswersSized (nat_le (source_bytes got) most_source_bytes) got status text
+
+abbrev pub AnswersMissing : List ℕ → Status → List ℕ → Type 0
+AnswersMissing name status text = (status ≡ Refused) × (text ≡ no_file_text name)
+
+abbrev pub AnswersFault : List ℕ → Status → List ℕ → Type 0
+AnswersFault name status text = (status ≡ ReadFault) × (text ≡ read_fault_text name)
+
+abbrev pub with_file : List NamedBytes → List ℕ → List ℕ → List NamedBytes
+with_file got name bytes = got ++ record { name = name; bytes = bytes } ∷ []
+
+-- Files are got in order, after those that were got before; the first that can't be read, or that the keeper lacks, decides.
+abbrev pub AnswersFrom : Option Map → List NamedBytes → List (List ℕ) → Status → List ℕ → Type 0
+AnswersFrom told got [] status text = AnswersGot got status text
+AnswersFrom told got (name ∷ names) status text =
+    AnswersFault name status text
+    ⊎ ((Holds told name None × AnswersMissing name status text)
+    ⊎ ((bytes : List ℕ) × Holds told name (Some bytes) × AnswersFrom told (with_file got name bytes) names status text))
 
 -- ---- the words
 
--- the file could not be read, or it is what the keeper holds under its name
-abbrev pub AnswersRead : Option Map → List ℕ → Status → List ℕ → Type 0
-AnswersRead told name ReadFault text = text ≡ read_fault_text name
-AnswersRead told name status text = (bytes : Option (List ℕ)) × Holds told name bytes × AnswersFile name bytes status text
+abbrev pub AnswersMany : Bool → Option Map → List (List ℕ) → Status → List ℕ → Type 0
+AnswersMany true told names status text = AnswersFrom told [] names status text
+AnswersMany false told names status text = PassesLimit (codes "files") status text
 
-abbrev pub AnswersNamed : Option Map → Option (List ℕ) → Status → List ℕ → Type 0
+abbrev pub AnswersNamed : Option Map → Option (List (List ℕ)) → Status → List ℕ → Type 0
 AnswersNamed told None status text = (status ≡ Usage) × (text ≡ usage_text)
-AnswersNamed told (Some name) status text = AnswersRead told name status text
+AnswersNamed told (Some names) status text = AnswersMany (nat_le (length names) most_files) told names status text
 
 -- the answer to the words, where the keeper holds what is told
 abbrev pub Answers : Option Map → List (List ℕ) → Status → List ℕ → Type 0
-Answers told words status text = AnswersNamed told (file_of words) status text
+Answers told words status text = AnswersNamed told (files_of words) status text
 
 -- ---- the run
 

@@ -1,6 +1,6 @@
 -- Soundness: no run of the program fails first at a check that a line of the report calls proved, and none fails at all where
 -- the status says that all is proved.
-use Rattle.std.specs.Prelude.{◌≡◌, ℕ, true, Option, Some, None, List, ◌++◌, Contains}
+use Rattle.std.specs.Prelude.{◌≡◌, ℕ, true, Option, Some, None, List, [], ◌∷◌, ◌++◌, Contains}
 use Rattle.typed_units.specs.declared.checks.SiteKey.{SiteKey}
 use Rattle.keeper_io.specs.Maps.{Map, entry_of}
 use Rattle.ada_syntax.specs.declared.units.SourceUnit.{SourceUnit}
@@ -14,7 +14,7 @@ use Rattle.gnat_report.specs.Text.{row_line}
 use Rattle.gnat_report.specs.Reading.{whole_lines, IsPlace}
 use Rattle.gnatprove_core.specs.declared.status.Status.{Status}
 use Rattle.gnatprove_core.specs.declared.status.Status.TheVariants.{Proved}
-use Rattle.gnatprove_core.specs.Words.{file_of}
+use Rattle.gnatprove_core.specs.Words.{files_of}
 
 -- the bytes are the text of a tree that is of the form, and all names of the form are known
 abbrev pub Accepted : List ℕ → FirstForm → Type 0
@@ -30,7 +30,7 @@ abbrev pub IsSound : Option Map → List (List ℕ) → Option (List ℕ) → Op
 IsSound told words before after =
     (map : Map) (name bytes old text : List ℕ) (f : FirstForm) (c : SiteKey)
     → told ≡ Some map → before ≡ Some old → after ≡ Some (old ++ text)
-    → file_of words ≡ Some name → entry_of map name ≡ Some bytes → Accepted bytes f
+    → files_of words ≡ Some (name ∷ []) → entry_of map name ≡ Some bytes → Accepted bytes f
     → c.place.file ≡ 0 → IsPlace c.place → CallsProved text name c → NeverFailsAt f c
 
 -- Where the keeper tells the file's bytes and they are accepted, the status that all is proved says that no run fails at any
@@ -38,4 +38,4 @@ IsSound told words before after =
 abbrev pub IsComplete : Option Map → List (List ℕ) → Status → Type 0
 IsComplete told words status =
     (map : Map) (name bytes : List ℕ) (f : FirstForm) (c : SiteKey)
-    → told ≡ Some map → file_of words ≡ Some name → entry_of map name ≡ Some bytes → Accepted bytes f → status ≡ Proved → NeverFailsAt f c
+    → told ≡ Some map → files_of words ≡ Some (name ∷ []) → entry_of map name ≡ Some bytes → Accepted bytes f → status ≡ Proved → NeverFailsAt f c

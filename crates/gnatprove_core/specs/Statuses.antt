@@ -20,4 +20,5 @@ IsAnswer Proved = Unit {0}
 IsAnswer Unproved = Unit {0}
 IsAnswer Refused = Unit {0}
 IsAnswer Usage = Unit {0}
+IsAnswer Limit = Unit {0}
 IsAnswer _ = ⊥

@@ -11,6 +11,10 @@ no_file_text name = codes "gnatprove: no file: " ++ (name ++ codes "\n")
 abbrev pub read_fault_text : List ℕ → List ℕ
 read_fault_text name = codes "gnatprove: read fault: " ++ (name ++ codes "\n")
 
+-- a quantity passed its limit
+abbrev pub limit_text : List ℕ → List ℕ
+limit_text quantity = codes "gnatprove: limit: " ++ (quantity ++ codes "\n")
+
 -- a refusal, with its place and its code
 abbrev pub error_text : List ℕ → ℕ → ℕ → List ℕ → List ℕ
 error_text name line column code =

@@ -13,7 +13,12 @@ abbrev pub is_file_name : List ℕ → Bool
 is_file_name [] = false
 is_file_name (c ∷ cs) = not (c == 45) && list_all is_file_byte (c ∷ cs) && nat_le (length (c ∷ cs)) 255
 
--- the file of `prove FILE`; no other words have a reading
-abbrev pub file_of : List (List ℕ) → Option (List ℕ)
-file_of (word ∷ name ∷ []) = if bytes_eq word (codes "prove") && is_file_name name then Some name else None
-file_of _ = None
+-- one or more names of files
+abbrev pub are_names : List (List ℕ) → Bool
+are_names [] = false
+are_names (name ∷ names) = list_all is_file_name (name ∷ names)
+
+-- the files of `prove FILE..`; no other words have a reading
+abbrev pub files_of : List (List ℕ) → Option (List (List ℕ))
+files_of [] = None
+files_of (word ∷ names) = if bytes_eq word (codes "prove") && are_names names then Some names else None

@@ -2,6 +2,8 @@
 #![tactic(auto)]
 
 mod answer;
+mod files;
+mod program;
 mod report;
 mod run;
 mod status;

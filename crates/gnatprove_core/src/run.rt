@@ -5,15 +5,15 @@ ghost use Rattle.keeper_io.specs.Causes.{Rose};
 ghost use Rattle.gnatprove_core.specs.Statuses.{IsAnswer};
 ghost use Rattle.gnatprove_core.specs.Answers.{Ends, IsCut};
 ghost use Rattle.gnatprove_core.specs.Sound.{IsComplete, IsSound};
-ghost use Rattle.gnatprove_core.specs.Words.{file_of};
+ghost use Rattle.gnatprove_core.specs.Words.{files_of};
 
-use crate::answer::answer_to;
+use crate::files::answer_to;
 use crate::status::Status;
 use ada_values::WordList;
 use keeper_io::{Keeper, Sink, write_all};
 use std::alloc::Global;
 
-/// Runs the program on the words of its command line, without the program's own name: reads the file that they name from
+/// Runs the program on the words of its command line, without the program's own name: reads the files that they name from
 /// the keeper, writes the answer to the sink, and says how it ended. `Proved` says that no run of the file's program fails
 /// at any check. Words without a reading leave the keeper as it was.
 ///
@@ -37,7 +37,7 @@ pub fn run_alone<K: Keeper, S: Sink>(
 
     ensures files_stay { K.told files.new ≡ K.told files.old }
     ensures no_puts { K.put_faults files.new ≡ K.put_faults files.old }
-    ensures untouched { file_of words.now ≡ None → files.new ≡ files.old }
+    ensures untouched { files_of words.now ≡ None → files.new ≡ files.old }
 {
     let Ok(answer) = answer_to(alloc, words, files) else {
         return Status::Starved;

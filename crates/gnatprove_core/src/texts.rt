@@ -1,7 +1,7 @@
 //! The lines that stand in place of a report.
 
 ghost use Rattle.std.specs.Prelude.{◌≡◌, IfOk};
-ghost use Rattle.gnatprove_core.specs.Texts.{usage_text, no_file_text, read_fault_text, error_text};
+ghost use Rattle.gnatprove_core.specs.Texts.{usage_text, no_file_text, read_fault_text, limit_text, error_text};
 
 use ada_values::{ByteList, NameText, Place, Starved};
 use gnat_report::push_place;
@@ -35,6 +35,17 @@ pub fn read_fault_text(alloc: Global, name: &NameText) -> Result<ByteList, Starv
     let mut text = Vec::new(alloc);
     text.extend_from_slice(b"gnatprove: read fault: ")?;
     text.extend_from_slice(name.as_bytes())?;
+    text.extend_from_slice(b"\n")?;
+    Ok(Items::from_vec(text))
+}
+
+/// The line for a quantity that passed its limit.
+pub fn limit_text(alloc: Global, quantity: &str) -> Result<ByteList, Starved>
+    ensures { IfOk result (λ text. text ≡ limit_text quantity.now) }
+{
+    let mut text = Vec::new(alloc);
+    text.extend_from_slice(b"gnatprove: limit: ")?;
+    text.extend_from_slice(quantity.as_bytes())?;
     text.extend_from_slice(b"\n")?;
     Ok(Items::from_vec(text))
 }

@@ -27,23 +27,20 @@ fn entry_of(alloc: Global, name: &[u8], bytes: &[u8]) -> Result<Entry, CaseFault
     Ok(Entry { name, bytes })
 }
 
-/// A list of one entry.
-fn entries_of(alloc: Global, entry: Entry) -> Result<EntryList, CaseFault> {
+/// The entries of names, each before its bytes.
+fn entries_of(alloc: Global, mut words: &[Vec<u8>]) -> Result<EntryList, CaseFault> {
     let mut entries = EntryList::new(alloc);
-    match entries.push(entry) {
-        Ok(()) => Ok(entries),
-        Err(_) => Err(CaseFault::Starved),
+    while let [name, bytes, rest @ ..] = words {
+        let entry = entry_of(alloc, name.as_slice(), bytes.as_slice())?;
+        made(entries.push(entry))?;
+        words = rest;
     }
+    Ok(entries)
 }
 
-/// A keeper of one entry.
-pub fn keeper_of(
-    alloc: Global,
-    name: &[u8],
-    bytes: &[u8],
-    fails: &[u8],
-) -> Result<MapKeeper, CaseFault> {
-    let entries = entries_of(alloc, entry_of(alloc, name, bytes)?)?;
+/// A keeper of entries, of which the words are names, each before its bytes.
+pub fn keeper_of(alloc: Global, words: &[Vec<u8>], fails: &[u8]) -> Result<MapKeeper, CaseFault> {
+    let entries = entries_of(alloc, words)?;
     match numbers(alloc, fails) {
         Ok(fails) => Ok(MapKeeper::new(entries, fails)),
         Err(fault) => {
@@ -179,12 +176,12 @@ fn push_held(
     made(push_entries(out, keeper))
 }
 
-/// What a keeper of one entry in memory answers to steps, how many calls were made, and what is kept in the end.
+/// What a keeper in memory answers to steps, how many calls were made, and what is kept in the end.
 pub fn push_keeper(alloc: Global, out: &mut String, words: &[Vec<u8>]) -> Result<(), CaseFault> {
-    let [name, bytes, fails, steps] = words else {
+    let [entries @ .., fails, steps] = words else {
         return Err(CaseFault::BadCase);
     };
-    match keeper_of(alloc, name.as_slice(), bytes.as_slice(), fails.as_slice()) {
+    match keeper_of(alloc, entries, fails.as_slice()) {
         Ok(mut keeper) => push_held(alloc, out, &mut keeper, steps.as_slice()),
         Err(fault) => Err(fault),
     }

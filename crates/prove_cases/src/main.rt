@@ -10,15 +10,15 @@
 //! - `position NAME PARAMS`: the number from 0 of the parameter of this name.
 //! - `rows NAME PARAMS ASSERTIONS`: the site of each row of that form, and whether it is proved.
 //! - `report ROWS`: the text of the report. A row is five words `FILE LINE COLUMN KIND STATUS`.
-//! - `keeper NAME BYTES FAILS STEPS`: what a keeper of one entry answers to steps, where the calls of these numbers fail, counted
+//! - `keeper NAME BYTES .. FAILS STEPS`: what a keeper of these entries answers to steps, where the calls of these numbers fail, counted
 //!   from 1; how many calls were made; and the entries in the end. A step is `NAME BYTES` to put, `NAME ?` to get, or `NAME #`
 //!   for how many bytes are got.
 //! - `files STEPS`: what the keeper of real files answers to steps, in the folder where the program runs.
 //! - `whole BYTES MOST`: what is read of a file of these bytes where it may have at most so many.
 //! - `sink BYTES FAILS MOST`: whether these bytes are written to a sink, of which one call takes at most so many; what it holds
 //!   then; and how many calls were made.
-//! - `run WORDS FILE TEXT KEEPER_FAILS SINK_FAILS MOST`: the status and the output of a run of the program on the words of its
-//!   command line, with one file.
+//! - `run WORDS FILE TEXT .. KEEPER_FAILS SINK_FAILS MOST`: the status and the output of a run of the program on the words of its
+//!   command line, with files and their texts.
 //! - `alone WORDS`: the status and the output of such a run on real files.
 #![tactic(auto)]
 

@@ -27,30 +27,25 @@ fn push_ran<K: Keeper>(
     made(push_ended(out, status, sink.bytes()))
 }
 
-/// Such a run over a keeper of a file that the words give, and a sink that they give.
+/// Such a run over a keeper of the files that the words give, and a sink that they give.
 fn push_over_words(
     alloc: Global,
     out: &mut String,
     line: &WordList,
     words: &[Vec<u8>],
 ) -> Result<(), CaseFault> {
-    let [name, text, keeper_fails, sink_fails, most] = words else {
+    let [files @ .., keeper_fails, sink_fails, most] = words else {
         return Err(CaseFault::BadCase);
     };
-    let mut files = keeper_of(
-        alloc,
-        name.as_slice(),
-        text.as_slice(),
-        keeper_fails.as_slice(),
-    )?;
+    let mut files = keeper_of(alloc, files, keeper_fails.as_slice())?;
     match sink_of(alloc, sink_fails.as_slice(), most.as_slice()) {
         Ok(mut sink) => push_ran(alloc, out, line, &mut files, &mut sink),
         Err(fault) => Err(fault),
     }
 }
 
-/// The status of a run over a keeper and a sink in memory, and what it wrote. The words are those of the command line, the name
-/// and the text of the only file, the numbers of the keeper's calls and of the sink's that fail, and how much one write takes.
+/// The status of a run over a keeper and a sink in memory, and what it wrote. The words are those of the command line, names
+/// of files, each before its text, the numbers of the keeper's calls and of the sink's that fail, and how much one write takes.
 pub fn push_run(alloc: Global, out: &mut String, words: &[Vec<u8>]) -> Result<(), CaseFault> {
     let [line, words @ ..] = words else {
         return Err(CaseFault::BadCase);

@@ -54,3 +54,7 @@ returns-clause-cut g c = λ _. (
   subst (λ (t : List ℕ). AddsPart (g.S.Sink.written c.args.out.now) (g.S.Sink.written c.write_all.new.out) t) c.as_slice.ensures c.in-Err.ensures.part,
   c.in-Ok.ensures.fault,
 )
+
+pub returns-in-Ok-write_all-clause-write_fault : goal.returns-in-Ok-write_all-clause-write_fault
+returns-in-Ok-write_all-clause-write_fault g c =
+    not_cut (g.K.Keeper.told c.args.files.now) c.args.words.now c.in-Ok.answer.status c.in-Ok.answer.text c.in-Ok.ensures.answer

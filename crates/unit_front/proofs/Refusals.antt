@@ -18,7 +18,7 @@ use Rattle.grammar_table.specs.declared.answers.SyntaxFault.TheVariants as synta
 use Rattle.spark_reader.specs.Reads.{Refuses}
 use Rattle.spark_reader.specs.declared.refusal.ReadRefusal.{ReadRefusal}
 use Rattle.spark_reader.specs.declared.refusal.ReadRefusal.TheVariants.{Lex, Syntax, Starved}
-use Rattle.gnatprove_core.specs.Answers.{IsLexTold, IsTold}
+use Rattle.unit_front.specs.Reading.{IsToldLexical as IsLexTold, IsTold}
 
 told : (f g : LexFault) → IsLexTold g → g ≡ f → IsLexTold f
 told f g t same = subst IsLexTold same t

@@ -1,4 +1,4 @@
-use Rattle.gnatprove_core.proofs.answer.place_in.Goals as goal
+use Rattle.unit_front.proofs.reading.place_in.Goals as goal
 
 pub returns-clause-place : goal.returns-clause-place
 returns-clause-place c = c.place.ensures.place c.args.bytes.now c.requires
