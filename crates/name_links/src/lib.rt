@@ -1,4 +1,4 @@
-//! What identifiers stand for.
+//! What the identifiers of a program stand for, to be looked up by their places.
 #![tactic(auto)]
 
 mod links;
