@@ -1,0 +1,9 @@
+pub mod Merging
+pub mod Operands
+pub mod Arguments
+pub mod Reaches
+pub mod Branches
+pub mod Aggregated
+pub mod Indexing
+pub mod Suffixed
+pub mod Trees
