@@ -16,5 +16,5 @@ scope_of s = record {
   number = number_in s.numbers.now;
   own = s.own;
   moment = s.moment;
-  indexes = s.indexes.now;
+  parameters = s.parameters.now;
 }

@@ -10,7 +10,7 @@ use name_library::{Link, Spot};
 use name_links::Links;
 use name_numbers::{NameTable, Word, word_of};
 use text_lines::Lines;
-use type_base::{Index, Moment, World};
+use type_base::{Moment, Parameter, World};
 
 /// What the reading of a part of a file's text goes by. Contracts speak of it by `scope_of`.
 pub struct Scope<'a> {
@@ -24,8 +24,8 @@ pub struct Scope<'a> {
     /// The subprogram whose text this is.
     pub own: Option<u32>,
     pub moment: Moment,
-    /// The indexes of the quantified expressions around it, innermost first.
-    pub indexes: &'a [Index],
+    /// The parameters of the loops and the indexes of the quantified expressions around it, innermost first.
+    pub parameters: &'a [Parameter],
 }
 
 impl<'a> Scope<'a> {
