@@ -3,7 +3,7 @@ use Rattle.std.proofs.Common.{◌≡◌, ℕ, ap, sym, subst, refl, ◌∙◌, �
 use Rattle.std.specs.Prelude.{nat_le, if◌then◌else◌}
 use Rattle.std.specs.List.{list_all}
 use Rattle.keeper_io.specs.Maps.{Map, entry_of}
-use Rattle.ada_syntax.specs.declared.units.SourceUnit.{SourceUnit}
+use Rattle.name_resolver.specs.declared.files.SourceFile.{SourceFile}
 use Rattle.typed_units.specs.declared.checks.SiteKey.{SiteKey}
 use Rattle.spark_reader.proofs.Only.{one_tree}
 use Rattle.first_form.specs.declared.form.FirstForm.{FirstForm}
@@ -33,17 +33,17 @@ Complete f s = s ≡ status.Proved → (c : SiteKey) → NeverFailsAt f c
 abbrev file_named : List ℕ → List ℕ → NamedBytes
 file_named name bytes = record { name = name; bytes = bytes }
 
-tree_complete : (name bytes : List ℕ) (f : FirstForm) → Accepted bytes f → (s : Status) (text : List ℕ) → (us : List SourceUnit) → Only.IsTreeOf bytes us
+tree_complete : (name bytes : List ℕ) (f : FirstForm) → Accepted bytes f → (s : Status) (text : List ℕ) → (us : List SourceFile) → Only.IsTreeOf bytes us
     → AnswersTrees (file_named name bytes ∷ []) us s text → Complete f s
 tree_complete name bytes f a s text us only w p c =
-    let answered : AnswersTree name (form_of bytes only.0) s text = subst (λ (vs : List SourceUnit). AnswersTrees (file_named name bytes ∷ []) vs s text) only.1 w in
-    let form : form_of bytes only.0 ≡ Some f = ap (form_of bytes) (one_tree bytes only.0 a.0 only.2 a.1) ∙ a.2 in
+    let answered : AnswersTree name (form_of bytes only.0.unit) s text = subst (λ (vs : List SourceFile). AnswersTrees (file_named name bytes ∷ []) vs s text) only.1 w in
+    let form : form_of bytes only.0.unit ≡ Some f = ap (form_of bytes) (one_tree bytes only.0.unit a.0 only.2 a.1) ∙ a.2 in
     let answers : AnswersForm name f (first_unknown f) s text = subst (λ (o : Option FirstForm). AnswersTree name o s text) form answered in
     report_complete name f s text (subst (λ (o : Option (ℕ × ℕ)). AnswersForm name f o s text) a.3 answers) p c
 
 read_complete : (name bytes : List ℕ) (f : FirstForm) → Accepted bytes f → (s : Status) (text : List ℕ) → AnswersRead (file_named name bytes ∷ []) s text → Complete f s
-read_complete name bytes f a s text (inl w) p c = absurd (Only.no_refusal bytes w.0 a.0 a.1 w.1)
-read_complete name bytes f a s text (inr w) p c = tree_complete name bytes f a s text w.0 (Only.only_tree bytes w.0 w.1) w.2 p c
+read_complete name bytes f a s text (inl w) p c = let d : status.Refused ≡ status.Proved = sym w.2.0 ∙ p in cc
+read_complete name bytes f a s text (inr w) p c = tree_complete name bytes f a s text w.0 (Only.only_tree bytes w.0 w.2.0) w.3 p c
 
 sized_complete : (name bytes : List ℕ) (f : FirstForm) → Accepted bytes f → (s : Status) (text : List ℕ) → (b : Bool) → AnswersSized b (file_named name bytes ∷ []) s text → Complete f s
 sized_complete name bytes f a s text true w p c = read_complete name bytes f a s text w p c

@@ -1,22 +1,19 @@
 -- How a run ends.
-use Rattle.std.proofs.Common.{◌≡◌, ◌<◌, ◌≤◌, ◌-◌, ◌+◌, ◌^◌, ◌⊎◌, ℕ, zero, suc, ap, sym, subst, length, arith, inl, inr, Bool, true, false, Option, Some, None, Result, Ok, Err, List, [], ◌∷◌}
-use Rattle.std.specs.Prelude.{IfOk, nat_le, slice_index_or, if◌then◌else◌}
-use Rattle.std.specs.List.{list_all}
+use Rattle.std.proofs.Common.{◌≡◌, ◌<◌, ◌≤◌, ◌-◌, ◌+◌, ◌^◌, ◌⊎◌, ℕ, ap, refl, sym, ◌∙◌, subst, length, arith, inl, inr, Bool, true, false, Option, Some, None, List, [], ◌∷◌}
+use Rattle.std.specs.Prelude.{nat_le, if◌then◌else◌}
+use Rattle.std.specs.List.{list_all, sum_by}
+use Rattle.std.proofs.lemmas.List.Sums.{sum_by-cons}
 use Rattle.std.specs.Io.KnownBytes.{append_known}
 use Rattle.keeper_io.specs.Maps.{Map}
-use Rattle.ada_syntax.specs.declared.units.SourceUnit.{SourceUnit}
-use Rattle.front_codes.specs.declared.codes.Refusal.{Refusal}
+use Rattle.name_resolver.specs.declared.files.SourceFile.{SourceFile}
 use Rattle.unit_front.specs.declared.files.NamedBytes.{NamedBytes}
-use Rattle.unit_front.specs.declared.files.FrontRefusal.TheVariants as front
-use Rattle.unit_front.specs.Reading.{AreShort, HaveFirst, HaveTrees, texts_of}
 use Rattle.first_form.specs.declared.form.FirstForm.{FirstForm}
 use Rattle.first_form.specs.Tree.{form_of}
 use Rattle.first_form.specs.Places.{first_unknown}
 use Rattle.gnatprove_core.specs.declared.status.Status.{Status}
 use Rattle.gnatprove_core.specs.declared.status.Status.TheVariants as status
-use Rattle.gnatprove_core.specs.declared.answer.Answer.{Answer}
 use Rattle.gnatprove_core.specs.Words.{files_of}
-use Rattle.gnatprove_core.specs.Answers.{rows_of, AnswersForm, AnswersFrom, AnswersMany, AnswersTree, AnswersTrees, AnswersRead, AnswersSized, AnswersNamed, Answers, Ends, RefusesAt, most_files, most_source_bytes, name_at, source_bytes, with_file}
+use Rattle.gnatprove_core.specs.Answers.{rows_of, AnswersForm, AnswersFrom, AnswersMany, AnswersTree, AnswersTrees, AnswersRead, AnswersSized, AnswersNamed, Answers, Ends, most_files, most_source_bytes, source_bytes, with_file}
 
 -- an answer has one of the statuses that an answer can have
 abbrev pub IsWritten : Status → Type 0
@@ -39,16 +36,16 @@ tree_is : (name : List ℕ) (o : Option FirstForm) (s : Status) (text : List ℕ
 tree_is name None s text a = refused_is s a.0
 tree_is name (Some f) s text a = form_is name f (first_unknown f) s text a
 
-trees_are : (got : List NamedBytes) (us : List SourceUnit) (s : Status) (text : List ℕ) → AnswersTrees got us s text → IsWritten s
+trees_are : (got : List NamedBytes) (us : List SourceFile) (s : Status) (text : List ℕ) → AnswersTrees got us s text → IsWritten s
 trees_are [] us s text a = refused_is s a.0
 trees_are (g ∷ []) [] s text a = refused_is s a.0
-trees_are (g ∷ []) (u ∷ []) s text a = tree_is g.name (form_of g.bytes u) s text a
+trees_are (g ∷ []) (u ∷ []) s text a = tree_is g.name (form_of g.bytes u.unit) s text a
 trees_are (g ∷ []) (u ∷ v ∷ us) s text a = refused_is s a.0
 trees_are (g ∷ h ∷ gs) us s text a = refused_is s a.0
 
 read_is : (got : List NamedBytes) (s : Status) (text : List ℕ) → AnswersRead got s text → IsWritten s
 read_is got s text (inl a) = refused_is s a.2.0
-read_is got s text (inr a) = trees_are got a.0 s text a.2
+read_is got s text (inr a) = trees_are got a.0 s text a.3
 
 limit_is : (s : Status) → s ≡ status.Limit → IsWritten s
 limit_is s e = subst IsWritten (sym e) tt
@@ -89,26 +86,13 @@ written_is told words s text a = named_is told (files_of words) s text a
 pub not_cut : {P : Type 0} (told : Option Map) (words : List (List ℕ)) (s : Status) (text : List ℕ) → Answers told words s text → s ≡ status.WriteFault → P
 not_cut told words s text a e = absurd (subst IsWritten e (written_is told words s text a))
 
--- the answer to files that are refused, and to those that have trees
-pub refusal_answer : {E : Type 0} (got : List NamedBytes) (f : Refusal) (r : Result Answer E) → HaveFirst (texts_of got) (front.Refused f)
-    → IfOk r (λ a. RefusesAt got f a.status a.text) → IfOk r (λ a. AnswersRead got a.status a.text)
-refusal_answer got f (Ok a) h w = inl (f, h, w)
-refusal_answer got f (Err e) h w = tt
+-- files within the limit of all bytes are short
+within : (gs : List NamedBytes) → sum_by (λ g. length g.bytes) gs ≡ source_bytes gs
+within [] = refl
+within (g ∷ gs) = sum_by-cons (λ (x : NamedBytes). length x.bytes) g gs ∙ ap (λ n. length g.bytes + n) (within gs)
 
-pub trees_answer : {E : Type 0} (got : List NamedBytes) (us : List SourceUnit) (r : Result Answer E) → HaveTrees (texts_of got) us
-    → IfOk r (λ a. AnswersTrees got us a.status a.text) → IfOk r (λ a. AnswersRead got a.status a.text)
-trees_answer got us (Ok a) h w = inr (us, h, w)
-trees_answer got us (Err e) h w = tt
-
--- texts within the limit of all bytes are short
 pub short_one : (g : NamedBytes) (gs : List NamedBytes) → source_bytes (g ∷ gs) ≤ most_source_bytes → length g.bytes < 2 ^ 32 - 1
 short_one g gs h = omega (arith, h)
 
-pub short_all : (gs : List NamedBytes) → source_bytes gs ≤ most_source_bytes → AreShort (texts_of gs)
-short_all [] h = tt
-short_all (g ∷ gs) h = (short_one g gs h, short_all gs (omega (arith, h)))
-
-pub named_here : (gs : List NamedBytes) (k : ℕ) (g : NamedBytes) → k < length gs → slice_index_or gs k g ≡ g → name_at gs k ≡ g.name
-named_here [] k g h e = absurd (omega arith)
-named_here (f ∷ gs) zero g h e = ap (λ (x : NamedBytes). x.name) e
-named_here (f ∷ gs) (suc k) g h e = named_here gs k g (omega arith) e
+pub short_all : (gs : List NamedBytes) → source_bytes gs ≤ most_source_bytes → sum_by (λ g. length g.bytes) gs < 2 ^ 31
+short_all gs h = let same = within gs in omega (arith, same, h)

@@ -11,7 +11,7 @@ use Rattle.typed_units.specs.declared.checks.SiteKey.{SiteKey}
 use Rattle.ada_semantics.specs.Plain.{fails}
 use Rattle.keeper_io.specs.Maps.{Map, entry_of}
 use Rattle.ada_values.specs.declared.place.Place.{Place}
-use Rattle.ada_syntax.specs.declared.units.SourceUnit.{SourceUnit}
+use Rattle.name_resolver.specs.declared.files.SourceFile.{SourceFile}
 use Rattle.spark_reader.proofs.Only.{one_tree}
 use Rattle.first_form.specs.declared.form.FirstForm.{FirstForm}
 use Rattle.first_form.specs.declared.form.Assertion.{Assertion}
@@ -29,17 +29,23 @@ use Rattle.form_prover.proofs.Exact.{one_worker_is}
 use Rattle.form_prover.proofs.Sound.{rows_hold}
 use Rattle.gnat_report.specs.declared.rows.Row.{Row}
 use Rattle.gnat_report.specs.declared.rows.RowStatus.TheVariants as row
-use Rattle.gnat_report.specs.Text.{row_line, report_text_of}
+use Rattle.gnat_report.specs.Text.{place_text, row_line, report_text_of}
+use Rattle.std.specs.Fmt.{decimal}
+use Rattle.front_codes.specs.declared.codes.Code.{Code}
+use Rattle.front_codes.specs.declared.codes.Code.TheVariants as code
+use Rattle.front_codes.specs.declared.codes.Refusal.{Refusal}
+use Rattle.front_codes.specs.Words.{word_of}
 use Rattle.gnat_report.specs.Reading.{whole_lines, IsRowName, IsPlace, IsRow}
 use Rattle.gnat_report.proofs.Bytes.{Lacks, Lacks-from_test, Lacks-from_All, Lacks-append}
 use Rattle.gnat_report.proofs.Lines.{cut_in}
-use Rattle.gnat_report.proofs.Parts.{fault_lines_differ}
+use Rattle.gnat_report.proofs.Numbers.{decimal_lacks_feed}
+use Rattle.gnat_report.proofs.Parts.{error_lines_differ, fault_lines_differ}
 use Rattle.gnat_report.proofs.Reports.{lines_read_back}
 use Rattle.gnatprove_core.specs.declared.status.Status.{Status}
 use Rattle.gnatprove_core.specs.declared.status.Status.TheVariants as status
 use Rattle.gnatprove_core.specs.Words.{are_names, is_file_byte, is_file_name, files_of}
-use Rattle.gnatprove_core.specs.Texts.{read_fault_text, limit_text}
-use Rattle.gnatprove_core.specs.Answers.{row_status, row_in, rows_of, Reports, AnswersForm, AnswersFrom, AnswersGot, AnswersTree, AnswersTrees, AnswersRead, AnswersSized, AnswersNamed, Answers, Ends, most_source_bytes, source_bytes}
+use Rattle.gnatprove_core.specs.Texts.{error_text, read_fault_text, limit_text}
+use Rattle.gnatprove_core.specs.Answers.{row_status, row_in, rows_of, Reports, AnswersForm, AnswersFrom, AnswersGot, AnswersTree, AnswersTrees, AnswersRead, AnswersSized, AnswersNamed, Answers, Ends, most_source_bytes, name_at, source_bytes}
 use Rattle.gnatprove_core.proofs.Ending.{short_one}
 use Rattle.gnatprove_core.proofs.Only as Only
 use Rattle.unit_front.specs.declared.files.NamedBytes.{NamedBytes}
@@ -214,6 +220,84 @@ no_row_in_fault name n text e =
 no_row_in_limit : (text : List ℕ) → text ≡ limit_text (codes "source bytes") → (k : ℕ) (r : Row) → IsRowName r.name → Contains (whole_lines (take k text)) (row_line r) → ⊥
 no_row_in_limit text e = no_row_in_line (codes "limit: source bytes") (Lacks-from_test 10 (codes "limit: source bytes") refl) text e
 
+-- nor is a line of an error
+words_lack : (c : Code) → Lacks 10 (word_of c)
+words_lack code.BadByte = Lacks-from_test 10 (codes "BadByte") refl
+words_lack code.BadNumber = Lacks-from_test 10 (codes "BadNumber") refl
+words_lack code.TooWide = Lacks-from_test 10 (codes "TooWide") refl
+words_lack code.Unexpected = Lacks-from_test 10 (codes "Unexpected") refl
+words_lack code.TooDeep = Lacks-from_test 10 (codes "TooDeep") refl
+words_lack code.UnknownName = Lacks-from_test 10 (codes "UnknownName") refl
+words_lack code.AmbiguousName = Lacks-from_test 10 (codes "AmbiguousName") refl
+words_lack code.Duplicate = Lacks-from_test 10 (codes "Duplicate") refl
+words_lack code.Overloaded = Lacks-from_test 10 (codes "Overloaded") refl
+words_lack code.WithCycle = Lacks-from_test 10 (codes "WithCycle") refl
+words_lack code.MissingBody = Lacks-from_test 10 (codes "MissingBody") refl
+words_lack code.SpecMismatch = Lacks-from_test 10 (codes "SpecMismatch") refl
+words_lack code.LeftOut = Lacks-from_test 10 (codes "LeftOut") refl
+words_lack code.L1 = Lacks-from_test 10 (codes "L1") refl
+words_lack code.L2 = Lacks-from_test 10 (codes "L2") refl
+words_lack code.L3 = Lacks-from_test 10 (codes "L3") refl
+words_lack code.L4 = Lacks-from_test 10 (codes "L4") refl
+words_lack code.L5 = Lacks-from_test 10 (codes "L5") refl
+words_lack code.L6 = Lacks-from_test 10 (codes "L6") refl
+words_lack code.L7 = Lacks-from_test 10 (codes "L7") refl
+words_lack code.L8 = Lacks-from_test 10 (codes "L8") refl
+words_lack code.L9 = Lacks-from_test 10 (codes "L9") refl
+words_lack code.L10 = Lacks-from_test 10 (codes "L10") refl
+words_lack code.L11 = Lacks-from_test 10 (codes "L11") refl
+words_lack code.L12 = Lacks-from_test 10 (codes "L12") refl
+words_lack code.L13 = Lacks-from_test 10 (codes "L13") refl
+words_lack code.L14 = Lacks-from_test 10 (codes "L14") refl
+words_lack code.L15 = Lacks-from_test 10 (codes "L15") refl
+words_lack code.L16 = Lacks-from_test 10 (codes "L16") refl
+words_lack code.L17 = Lacks-from_test 10 (codes "L17") refl
+words_lack code.L18 = Lacks-from_test 10 (codes "L18") refl
+words_lack code.L19 = Lacks-from_test 10 (codes "L19") refl
+words_lack code.L20 = Lacks-from_test 10 (codes "L20") refl
+words_lack code.L21 = Lacks-from_test 10 (codes "L21") refl
+words_lack code.L22 = Lacks-from_test 10 (codes "L22") refl
+words_lack code.L23 = Lacks-from_test 10 (codes "L23") refl
+words_lack code.L24 = Lacks-from_test 10 (codes "L24") refl
+words_lack code.L25 = Lacks-from_test 10 (codes "L25") refl
+words_lack code.L26 = Lacks-from_test 10 (codes "L26") refl
+words_lack code.L27 = Lacks-from_test 10 (codes "L27") refl
+words_lack code.L28 = Lacks-from_test 10 (codes "L28") refl
+words_lack code.L29 = Lacks-from_test 10 (codes "L29") refl
+words_lack code.L30 = Lacks-from_test 10 (codes "L30") refl
+words_lack code.F1 = Lacks-from_test 10 (codes "F1") refl
+words_lack code.F2 = Lacks-from_test 10 (codes "F2") refl
+words_lack code.F3 = Lacks-from_test 10 (codes "F3") refl
+words_lack code.F4 = Lacks-from_test 10 (codes "F4") refl
+words_lack code.F5 = Lacks-from_test 10 (codes "F5") refl
+words_lack code.F6 = Lacks-from_test 10 (codes "F6") refl
+
+place_lacks : (p : Place) → Lacks 10 (place_text p)
+place_lacks p =
+    Lacks-append 10 (codes ":") (decimal p.line ++ (codes ":" ++ (decimal p.column ++ codes ": "))) (Lacks-from_test 10 (codes ":") refl)
+    (Lacks-append 10 (decimal p.line) (codes ":" ++ (decimal p.column ++ codes ": ")) (decimal_lacks_feed p.line)
+    (Lacks-append 10 (codes ":") (decimal p.column ++ codes ": ") (Lacks-from_test 10 (codes ":") refl)
+    (Lacks-append 10 (decimal p.column) (codes ": ") (decimal_lacks_feed p.column) (Lacks-from_test 10 (codes ": ") refl))))
+
+no_row_in_error : (name : List ℕ) → IsRowName name → (r : Refusal) → (text : List ℕ) → text ≡ error_text name r.place.line r.place.column (word_of r.code) → (k : ℕ) (row : Row) → IsRowName row.name
+    → Contains (whole_lines (take k text)) (row_line row) → ⊥
+no_row_in_error name n r text same k row i h =
+    let at : Place = record { file = 0; line = r.place.line; column = r.place.column } in
+    let line = name ++ (place_text at ++ (codes "error: " ++ word_of r.code)) in
+    let lacks : Lacks 10 line = Lacks-append 10 name (place_text at ++ (codes "error: " ++ word_of r.code)) (Lacks-from_All (λ c. (c ≢ 58) × (c ≢ 10)) 10 (λ c p. p.1) name n)
+    (Lacks-append 10 (place_text at) (codes "error: " ++ word_of r.code) (place_lacks at)
+    (Lacks-append 10 (codes "error: ") (word_of r.code) (Lacks-from_test 10 (codes "error: ") refl) (words_lack r.code))) in
+    let is : text ≡ line ++ 10 ∷ [] = same ∙ ends_in_feed name (place_text at) (codes "error: ") (word_of r.code) in
+    let there = subst (λ (t : List ℕ). Contains (whole_lines (take k t)) (row_line row)) is h in
+    elim (cut_in line [] k lacks) [
+      | inl e ↦ let g = subst (λ (ls : List (List ℕ)). Contains ls (row_line row)) e there in absurd (omega (arith, g.1))
+      | inr e ↦ error_lines_differ row name at (word_of r.code) i n
+          (one_line line (row_line row) (subst (λ (ls : List (List ℕ)). Contains ls (row_line row)) (e.1 ∙ ap (λ (ls : List (List ℕ)). line ∷ ls) (no_lines e.0)) there))
+    ]
+  where
+    ends_in_feed : (a b c d : List ℕ) → a ++ (b ++ (c ++ (d ++ 10 ∷ []))) ≡ (a ++ (b ++ (c ++ d))) ++ 10 ∷ []
+    ends_in_feed a b c d = sym (append_assoc a (b ++ (c ++ d)) (10 ∷ []) ∙ ap (λ (x : List ℕ). a ++ x) (append_assoc b (c ++ d) (10 ∷ []) ∙ ap (λ (x : List ℕ). b ++ x) (append_assoc c d (10 ∷ []))))
+
 -- ---- the answer
 
 abbrev Sound : List ℕ → FirstForm → List ℕ → Type 0
@@ -223,18 +307,28 @@ abbrev file_named : List ℕ → List ℕ → NamedBytes
 file_named name bytes = record { name = name; bytes = bytes }
 
 tree_sound : (name bytes : List ℕ) → IsRowName name → length bytes < 2 ^ 32 - 1 → (f : FirstForm) → Accepted bytes f → (s : Status) (full : List ℕ)
-    → (us : List SourceUnit) → Only.IsTreeOf bytes us → AnswersTrees (file_named name bytes ∷ []) us s full → Sound name f full
+    → (us : List SourceFile) → Only.IsTreeOf bytes us → AnswersTrees (file_named name bytes ∷ []) us s full → Sound name f full
 tree_sound name bytes n short f a s full us only w k c z place h =
-    let answered : AnswersTree name (form_of bytes only.0) s full = subst (λ (vs : List SourceUnit). AnswersTrees (file_named name bytes ∷ []) vs s full) only.1 w in
-    let form : form_of bytes only.0 ≡ Some f = ap (form_of bytes) (one_tree bytes only.0 a.0 only.2 a.1) ∙ a.2 in
+    let answered : AnswersTree name (form_of bytes only.0.unit) s full = subst (λ (vs : List SourceFile). AnswersTrees (file_named name bytes ∷ []) vs s full) only.1 w in
+    let form : form_of bytes only.0.unit ≡ Some f = ap (form_of bytes) (one_tree bytes only.0.unit a.0 only.2 a.1) ∙ a.2 in
     let answers : AnswersForm name f (first_unknown f) s full = subst (λ (o : Option FirstForm). AnswersTree name o s full) form answered in
     let reports : Reports name f s full = subst (λ (o : Option (ℕ × ℕ)). AnswersForm name f o s full) a.3 answers in
     report_sound name n f (places_are_in_file bytes a.0 f short a.2) full reports.1 k c z place h
 
+named_or_empty : (name bytes : List ℕ) → IsRowName name → (k : ℕ) → IsRowName (name_at (file_named name bytes ∷ []) k)
+named_or_empty name bytes n zero = n
+named_or_empty name bytes n (suc k) = λ j d lt. absurd (omega arith)
+
+-- a file that the rules of names refuse has the line of an error, and no row
+refused_sound : (name bytes : List ℕ) → IsRowName name → (r : Refusal) → (f : FirstForm) → (full : List ℕ) → full ≡ error_text (name_at (file_named name bytes ∷ []) r.place.file) r.place.line r.place.column (word_of r.code)
+    → Sound name f full
+refused_sound name bytes n r f full e k c z place h =
+    absurd (no_row_in_error (name_at (file_named name bytes ∷ []) r.place.file) (named_or_empty name bytes n r.place.file) r full e k (record { name = name; key = c; status = row.Proved }) n h)
+
 read_sound : (name bytes : List ℕ) → IsRowName name → length bytes < 2 ^ 32 - 1 → (f : FirstForm) → Accepted bytes f → (s : Status) (full : List ℕ)
     → AnswersRead (file_named name bytes ∷ []) s full → Sound name f full
-read_sound name bytes n short f a s full (inl w) k c z place h = absurd (Only.no_refusal bytes w.0 a.0 a.1 w.1)
-read_sound name bytes n short f a s full (inr w) k c z place h = tree_sound name bytes n short f a s full w.0 (Only.only_tree bytes w.0 w.1) w.2 k c z place h
+read_sound name bytes n short f a s full (inl w) = refused_sound name bytes n w.0 f full w.2.1
+read_sound name bytes n short f a s full (inr w) = tree_sound name bytes n short f a s full w.0 (Only.only_tree bytes w.0 w.2.0) w.3
 
 sized_sound : (name bytes : List ℕ) → IsRowName name → (f : FirstForm) → Accepted bytes f → (s : Status) (full : List ℕ)
     → (b : Bool) → nat_le (source_bytes (file_named name bytes ∷ [])) most_source_bytes ≡ b → AnswersSized b (file_named name bytes ∷ []) s full → Sound name f full

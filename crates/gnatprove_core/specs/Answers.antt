@@ -5,12 +5,14 @@ use Rattle.std.specs.Io.KnownBytes.{append_known}
 use Rattle.keeper_io.specs.Causes.{Rose}
 use Rattle.keeper_io.specs.Maps.{Map, Holds}
 use Rattle.keeper_io.specs.Pieces.{AddsPart}
-use Rattle.ada_syntax.specs.declared.units.SourceUnit.{SourceUnit}
+use Rattle.name_library.specs.declared.links.Usage.{Usage as Link}
+use Rattle.name_resolver.specs.declared.files.SourceFile.{SourceFile}
 use Rattle.front_codes.specs.declared.codes.Refusal.{Refusal}
 use Rattle.front_codes.specs.Words.{word_of}
 use Rattle.unit_front.specs.declared.files.NamedBytes.{NamedBytes}
 use Rattle.unit_front.specs.declared.files.FrontRefusal.TheVariants as front
-use Rattle.unit_front.specs.Reading.{HaveFirst, HaveTrees, texts_of}
+use Rattle.unit_front.specs.Reading.{texts_of}
+use Rattle.unit_front.specs.Naming.{AreNamed, AreRefused}
 use Rattle.first_form.specs.declared.form.FirstForm.{FirstForm}
 use Rattle.first_form.specs.Tree.{form_of}
 use Rattle.first_form.specs.Places.{first_unknown}
@@ -52,9 +54,9 @@ Reports name f status text = (status ≡ status_of (rows_of f)) × (text ≡ rep
 abbrev pub Refuses : List ℕ → ℕ → ℕ → List ℕ → Status → List ℕ → Type 0
 Refuses name line column code status text = (status ≡ Refused) × (text ≡ error_text name line column code)
 
--- a name that is no parameter is refused, and else the report is written
+-- a form with a name that is no parameter is refused at its start, and else the report is written
 abbrev pub AnswersForm : List ℕ → FirstForm → Option (ℕ × ℕ) → Status → List ℕ → Type 0
-AnswersForm name f (Some place) status text = Refuses name place.0 place.1 (codes "UnknownName") status text
+AnswersForm name f (Some place) status text = Refuses name 1 1 (codes "NotBuilt") status text
 AnswersForm name f None status text = Reports name f status text
 
 -- a file that isn't of the form is refused at its start
@@ -64,26 +66,26 @@ AnswersTree name (Some f) status text = AnswersForm name f (first_unknown f) sta
 
 -- ---- the files
 
--- the name of the file of this number
+-- the name of the file of this number; empty where there is none
 abbrev pub name_at : List NamedBytes → ℕ → List ℕ
 name_at [] k = []
 name_at (g ∷ gs) zero = g.name
 name_at (g ∷ gs) (suc k) = name_at gs k
 
--- the first refusal of the texts
+-- the first refusal of the files
 abbrev pub RefusesAt : List NamedBytes → Refusal → Status → List ℕ → Type 0
 RefusesAt got r status text = Refuses (name_at got r.place.file) r.place.line r.place.column (word_of r.code) status text
 
 -- what isn't of the form is refused at the start of the first file
-abbrev pub AnswersTrees : List NamedBytes → List SourceUnit → Status → List ℕ → Type 0
-AnswersTrees (g ∷ []) (u ∷ []) status text = AnswersTree g.name (form_of g.bytes u) status text
-AnswersTrees got us status text = Refuses (name_at got 0) 1 1 (codes "NotBuilt") status text
+abbrev pub AnswersTrees : List NamedBytes → List SourceFile → Status → List ℕ → Type 0
+AnswersTrees (g ∷ []) (s ∷ []) status text = AnswersTree g.name (form_of g.bytes s.unit) status text
+AnswersTrees got ss status text = Refuses (name_at got 0) 1 1 (codes "NotBuilt") status text
 
--- the texts are refused, or each is that of a tree
+-- the files are refused, or they have trees and obey the rules of names
 abbrev pub AnswersRead : List NamedBytes → Status → List ℕ → Type 0
 AnswersRead got status text =
-    ((r : Refusal) × HaveFirst (texts_of got) (front.Refused r) × RefusesAt got r status text)
-    ⊎ ((us : List SourceUnit) × HaveTrees (texts_of got) us × AnswersTrees got us status text)
+    ((r : Refusal) × AreRefused (texts_of got) (front.Refused r) × RefusesAt got r status text)
+    ⊎ ((ss : List SourceFile) × (links : List Link) × AreNamed (texts_of got) ss links × AnswersTrees got ss status text)
 
 abbrev pub PassesLimit : List ℕ → Status → List ℕ → Type 0
 PassesLimit quantity status text = (status ≡ Limit) × (text ≡ limit_text quantity)

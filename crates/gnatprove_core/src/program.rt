@@ -1,6 +1,7 @@
 //! The answer to the texts of files.
 
-ghost use Rattle.std.specs.Prelude.{◌≡◌, ◌≢◌, ◌<◌, ◌≤◌, ◌-◌, ◌^◌, IfOk, [], length};
+ghost use Rattle.std.specs.Prelude.{◌≡◌, ◌≢◌, ◌<◌, ◌≤◌, ◌-◌, ◌^◌, IfOk, [], length, unwrap_or};
+ghost use Rattle.std.specs.Option.{option_copied};
 ghost use Rattle.first_form.specs.Form.{IsForm};
 ghost use Rattle.first_form.specs.Places.{first_unknown};
 ghost use Rattle.first_form.specs.Tree.{form_of};
@@ -13,8 +14,9 @@ use ada_tree::SourceUnit;
 use ada_values::{NameText, Starved};
 use first_form::{FirstForm, FormFault, first_unknown, form_of};
 use front_codes::{Refusal, text_of};
+use name_resolver::SourceFile;
 use std::alloc::Global;
-use unit_front::{FrontRefusal, NamedBytes, read_files};
+use unit_front::{FrontRefusal, NamedBytes, name_files};
 
 /// The answer to a form.
 fn answer_form(alloc: Global, name: &NameText, form: &FirstForm) -> Result<Answer, Starved>
@@ -22,7 +24,7 @@ fn answer_form(alloc: Global, name: &NameText, form: &FirstForm) -> Result<Answe
     ensures { IfOk result (λ answer. AnswersForm name.now form.now (first_unknown form.now) answer.status answer.text) }
 {
     match first_unknown(form) {
-        Some((line, column)) => refusal(alloc, name, line, column, "UnknownName"),
+        Some(_) => refusal(alloc, name, 1, 1, "NotBuilt"),
         None => report(alloc, name, form),
     }
 }
@@ -48,15 +50,15 @@ fn answer_tree(
 fn answer_trees(
     alloc: Global,
     files: &[NamedBytes],
-    units: &[SourceUnit],
+    sources: &[SourceFile],
 ) -> Result<Answer, Starved>
     requires some { files.now ≢ [] }
     requires short { source_bytes files.now ≤ most_source_bytes }
-    ensures { IfOk result (λ answer. AnswersTrees files.now units.now answer.status answer.text) }
+    ensures { IfOk result (λ answer. AnswersTrees files.now sources.now answer.status answer.text) }
 {
     match files {
-        [file] => match units {
-            [unit] => answer_tree(alloc, &file.name, file.bytes.as_slice(), unit),
+        [file] => match sources {
+            [source] => answer_tree(alloc, &file.name, file.bytes.as_slice(), &source.unit),
             _ => refusal(alloc, &file.name, 1, 1, "NotBuilt"),
         },
         [file, ..] => refusal(alloc, &file.name, 1, 1, "NotBuilt"),
@@ -64,33 +66,32 @@ fn answer_trees(
     }
 }
 
-/// The name of the file of this number.
-fn name_at(mut files: &[NamedBytes], mut number: u32) -> &NameText
-    requires { number < length files.now }
-    ensures { result.now ≡ name_at files.entry.now number }
+/// The name of the file of this number, where there is one.
+fn name_at(mut files: &[NamedBytes], mut number: u32) -> Option<&NameText>
+    ensures { unwrap_or (option_copied result) [] ≡ name_at files.entry.now number }
 {
     while let [file, rest @ ..] = files {
         if number == 0 {
-            return &file.name;
+            return Some(&file.name);
         }
         number -= 1;
         files = rest;
     }
-    unreachable!()
+    None
 }
 
 /// The answer to a refusal of one of the files.
 fn answer_refusal(alloc: Global, files: &[NamedBytes], refused: Refusal) -> Result<Answer, Starved>
-    requires { refused.place.file < length files.now }
     ensures { IfOk result (λ answer. RefusesAt files.now refused answer.status answer.text) }
 {
-    refusal(
-        alloc,
-        name_at(files, refused.place.file),
-        refused.place.line,
-        refused.place.column,
-        text_of(refused.code),
-    )
+    let (line, column) = (refused.place.line, refused.place.column);
+    match name_at(files, refused.place.file) {
+        Some(name) => refusal(alloc, name, line, column, text_of(refused.code)),
+        None => {
+            let nameless = NameText::from_bytes(alloc, b"")?;
+            refusal(alloc, &nameless, line, column, text_of(refused.code))
+        }
+    }
 }
 
 /// The answer to the texts of files that are within the limits.
@@ -100,8 +101,8 @@ pub fn answer_read(alloc: Global, files: &[NamedBytes]) -> Result<Answer, Starve
     requires short { source_bytes files.now ≤ most_source_bytes }
     ensures { IfOk result (λ answer. AnswersRead files.now answer.status answer.text) }
 {
-    match read_files(alloc, files) {
-        Ok(units) => answer_trees(alloc, files, units.as_slice()),
+    match name_files(alloc, files) {
+        Ok(program) => answer_trees(alloc, files, program.files.as_slice()),
         Err(FrontRefusal::Refused(refused)) => answer_refusal(alloc, files, refused),
         Err(FrontRefusal::Starved) => Err(Starved),
     }

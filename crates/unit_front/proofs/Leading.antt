@@ -7,7 +7,7 @@ use Rattle.unit_front.specs.declared.reading.FileRead.TheVariants.{Lexical, Synt
 use Rattle.unit_front.specs.declared.trees.Sofar.{Sofar}
 use Rattle.unit_front.specs.Reading.{AreFiles, IsFile, first_lexical, first_syntactic, else_refusal, trees}
 use Rattle.unit_front.specs.Sofar.{HaveLed, Leads, StillLeads, noted}
-use Rattle.ada_syntax.specs.declared.units.SourceUnit.{SourceUnit}
+use Rattle.name_resolver.specs.declared.files.SourceFile.{SourceFile}
 use Rattle.unit_front.specs.declared.files.NamedBytes.{NamedBytes}
 use Rattle.unit_front.specs.Reading.{AreShort, first_refusal, texts_of}
 
@@ -19,16 +19,16 @@ else_twice None f b = refl
 pub one_more : (texts : List (List ℕ)) (s : Sofar) (f : FileRead) (gs : List FileRead) → Leads texts s (f ∷ gs) → Leads texts (noted s f) gs
 one_more texts s (Lexical f) gs h = (h.0, h.1, h.2 ∙ else_twice s.lexical f (first_lexical gs), h.3, h.4)
 one_more texts s (Syntactic f) gs h = (h.0, h.1, h.2, h.3 ∙ else_twice s.syntactic f (first_syntactic gs), h.4)
-one_more texts s (Tree u) gs h = (h.0, h.1, h.2, h.3, h.4 ∙ sym (append_assoc s.units (u ∷ []) (trees gs)))
+one_more texts s (Tree u) gs h = (h.0, h.1, h.2, h.3, h.4 ∙ sym (append_assoc s.files (u ∷ []) (trees gs)))
 
-pub at_start : (texts : List (List ℕ)) (s : Sofar) → s.lexical ≡ None → s.syntactic ≡ None → s.units ≡ [] → StillLeads texts s 0 texts
+pub at_start : (texts : List (List ℕ)) (s : Sofar) → s.lexical ≡ None → s.syntactic ≡ None → s.files ≡ [] → StillLeads texts s 0 texts
 unfolding StillLeads
 at_start texts s a b c gs h = (
   gs,
   h,
   ap (λ (o : Option Refusal). else_refusal o (first_lexical gs)) (sym a),
   ap (λ (o : Option Refusal). else_refusal o (first_syntactic gs)) (sym b),
-  ap (λ (us : List SourceUnit). us ++ trees gs) (sym c),
+  ap (λ (us : List SourceFile). us ++ trees gs) (sym c),
 )
 
 pub goes_on : (texts : List (List ℕ)) (s : Sofar) (k : ℕ) (text : List ℕ) (rest : List (List ℕ)) (f : FileRead) → StillLeads texts s k (text ∷ rest) → IsFile k text f

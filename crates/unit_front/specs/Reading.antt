@@ -5,7 +5,7 @@ use Rattle.ada_text.specs.declared.token.LexFault.{LexFault}
 use Rattle.ada_text.specs.declared.token.LexFault.TheVariants as lex
 use Rattle.grammar_table.specs.declared.answers.SyntaxFault.{SyntaxFault}
 use Rattle.grammar_table.specs.declared.answers.SyntaxFault.TheVariants as syntax
-use Rattle.ada_syntax.specs.declared.units.SourceUnit.{SourceUnit}
+use Rattle.name_resolver.specs.declared.files.SourceFile.{SourceFile}
 use Rattle.spark_reader.specs.declared.refusal.ReadRefusal.{ReadRefusal}
 use Rattle.spark_reader.specs.declared.refusal.ReadRefusal.TheVariants as reading
 use Rattle.spark_reader.specs.Reads.{Reads, Refuses, place_of}
@@ -61,7 +61,7 @@ refusal_of file text r =
 abbrev pub IsFile : ℕ → List ℕ → FileRead → Type 0
 IsFile k text (Lexical f) = (r : LexFault) × Refuses text (reading.Lex r) × (f ≡ refusal_of k text (reading.Lex r))
 IsFile k text (Syntactic f) = (r : SyntaxFault) × (at : ℕ) × Refuses text (reading.Syntax r at) × (f ≡ refusal_of k text (reading.Syntax r at))
-IsFile k text (Tree u) = Reads text u
+IsFile k text (Tree s) = (s.text ≡ text) × Reads text s.unit
 
 -- the same of each file, where their numbers begin with k
 abbrev pub AreFiles : ℕ → List (List ℕ) → List FileRead → Type 0
@@ -89,8 +89,8 @@ else_refusal None g = g
 abbrev pub first_refusal : List FileRead → Option Refusal
 first_refusal fs = else_refusal (first_lexical fs) (first_syntactic fs)
 
--- the trees among them, in order
-abbrev pub trees : List FileRead → List SourceUnit
+-- the texts with trees among them, in order
+abbrev pub trees : List FileRead → List SourceFile
 trees [] = []
 trees (Tree u ∷ fs) = u ∷ trees fs
 trees (_ ∷ fs) = trees fs
@@ -100,9 +100,9 @@ trees (_ ∷ fs) = trees fs
 abbrev pub texts_of : List NamedBytes → List (List ℕ)
 texts_of = map (λ f. f.bytes)
 
--- each text has a tree, and these are the trees
-abbrev pub HaveTrees : List (List ℕ) → List SourceUnit → Type 0
-HaveTrees texts us = (fs : List FileRead) × AreFiles 0 texts fs × (first_refusal fs ≡ None) × (us ≡ trees fs)
+-- each text has a tree, and these are the texts with their trees
+abbrev pub HaveTrees : List (List ℕ) → List SourceFile → Type 0
+HaveTrees texts ss = (fs : List FileRead) × AreFiles 0 texts fs × (first_refusal fs ≡ None) × (ss ≡ trees fs)
 
 -- of the texts this is the first refusal
 abbrev pub HaveFirst : List (List ℕ) → FrontRefusal → Type 0

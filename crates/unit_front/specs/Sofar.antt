@@ -12,7 +12,7 @@ else_refusal = else_of
 abbrev pub noted : Sofar → FileRead → Sofar
 noted s (Lexical f) = record s { lexical = else_of s.lexical (Some f) }
 noted s (Syntactic f) = record s { syntactic = else_of s.syntactic (Some f) }
-noted s (Tree u) = record s { units = s.units ++ u ∷ [] }
+noted s (Tree f) = record s { files = s.files ++ f ∷ [] }
 
 abbrev pub refusal_in : Sofar → Option Refusal
 refusal_in s = else_of s.lexical s.syntactic
@@ -21,7 +21,7 @@ refusal_in s = else_of s.lexical s.syntactic
 abbrev pub Leads : List (List ℕ) → Sofar → List FileRead → Type 0
 Leads texts s gs =
     (fs : List FileRead) × AreFiles 0 texts fs
-    × (first_lexical fs ≡ else_of s.lexical (first_lexical gs)) × (first_syntactic fs ≡ else_of s.syntactic (first_syntactic gs)) × (trees fs ≡ s.units ++ trees gs)
+    × (first_lexical fs ≡ else_of s.lexical (first_lexical gs)) × (first_syntactic fs ≡ else_of s.syntactic (first_syntactic gs)) × (trees fs ≡ s.files ++ trees gs)
 
 -- whatever the files from number k on are, what was found and then these are all files
 unfoldable pub StillLeads : List (List ℕ) → Sofar → ℕ → List (List ℕ) → Type 0

@@ -1,8 +1,8 @@
 //! The files of a program, and why they may be refused.
 
-use ada_tree::SourceUnit;
 use ada_values::{ByteList, NameText, Starved};
 use front_codes::Refusal;
+use name_resolver::{NameRefusal, SourceFile};
 use sqlite_items::Items;
 
 /// A file: its name and its bytes.
@@ -22,13 +22,14 @@ impl Drop for NamedBytes {
 /// The files of a program, in the order in which they were named.
 pub type FileList = Items<NamedBytes>;
 
-/// The trees of files, in the order of these.
-pub type UnitList = Items<SourceUnit>;
+/// The texts of files with their trees, in the order of the files.
+pub type SourceList = Items<SourceFile>;
 
 /// Why files are refused.
 #[derive(Clone, Copy)]
 pub enum FrontRefusal {
-    /// The first broken rule: lexical rules come before the grammar, and then the order of files and places decides.
+    /// The first broken rule: lexical rules come before the grammar, and this before the rules of names; then the order of files
+    /// and places decides.
     Refused(Refusal),
     /// There was no memory.
     Starved,
@@ -42,5 +43,19 @@ impl From<Starved> for FrontRefusal {
 
     fn from(_error: Starved) -> FrontRefusal {
         FrontRefusal::Starved
+    }
+}
+
+impl From<NameRefusal> for FrontRefusal {
+    ghost use Rattle.std.specs.Prelude.{◌≡◌};
+    ghost use Rattle.unit_front.specs.Naming.{by_names};
+
+    ghost from_gives = { λ names refusal. refusal ≡ by_names names };
+
+    fn from(refusal: NameRefusal) -> FrontRefusal {
+        match refusal {
+            NameRefusal::Refused(refusal) => FrontRefusal::Refused(refusal),
+            NameRefusal::Starved => FrontRefusal::Starved,
+        }
     }
 }

@@ -11,7 +11,9 @@ use ada_tree::SourceUnit;
 use ada_values::{Place, Starved};
 use front_codes::{Code, Refusal};
 use grammar_table::SyntaxFault;
+use name_resolver::SourceFile;
 use spark_reader::{ReadRefusal, read};
+use sqlite_items::Items;
 use std::alloc::Global;
 
 /// What a file's text is: refused by the lexical rules or by the grammar, or the text of a tree.
@@ -19,7 +21,7 @@ use std::alloc::Global;
 pub enum FileRead {
     Lexical(Refusal),
     Syntactic(Refusal),
-    Tree(SourceUnit),
+    Tree(SourceFile),
 }
 
 /// The code of a lexical fault.
@@ -81,13 +83,26 @@ fn refusal_of(file: u32, text: &[u8], refusal: ReadRefusal) -> Refusal
     }
 }
 
+/// A text with its tree.
+fn with_text(alloc: Global, text: &[u8], unit: SourceUnit) -> Result<SourceFile, Starved>
+    ensures { IfOk result (λ file. file ≡ record { text = text.now; unit = unit }) }
+{
+    match Items::from_slice(alloc, text) {
+        Ok(text) => Ok(SourceFile { text, unit }),
+        Err(starved) => {
+            drop(unit);
+            Err(starved)
+        }
+    }
+}
+
 /// Reads a file's text of fewer than 2^32 - 1 bytes.
 pub fn read_file(alloc: Global, file: u32, text: &[u8]) -> Result<FileRead, Starved>
     requires { length text.now < 2 ^ 32 - 1 }
     ensures { IfOk result (λ found. IsFile file text.now found) }
 {
     match read(alloc, text) {
-        Ok(unit) => Ok(FileRead::Tree(unit)),
+        Ok(unit) => Ok(FileRead::Tree(with_text(alloc, text, unit)?)),
         Err(ReadRefusal::Starved) => Err(Starved),
         Err(ReadRefusal::Lex(fault)) => {
             Ok(FileRead::Lexical(refusal_of(file, text, ReadRefusal::Lex(fault))))

@@ -4,7 +4,7 @@ ghost use Rattle.std.specs.Prelude.{◌≡◌, ◌<◌, ◌≤◌, ◌-◌, ◌^
 ghost use Rattle.unit_front.specs.Reading.{AreShort, HaveFirst, HaveTrees, IsOf, texts_of};
 ghost use Rattle.unit_front.specs.Sofar.{HaveLed, else_refusal, noted, refusal_in};
 
-use crate::files::{FrontRefusal, NamedBytes, UnitList};
+use crate::files::{FrontRefusal, NamedBytes, SourceList};
 use crate::reading::{FileRead, read_file};
 use ada_values::Starved;
 use front_codes::Refusal;
@@ -15,7 +15,7 @@ use std::alloc::Global;
 pub struct Sofar {
     pub lexical: Option<Refusal>,
     pub syntactic: Option<Refusal>,
-    pub units: UnitList,
+    pub files: SourceList,
 }
 
 impl Drop for Sofar {
@@ -23,9 +23,9 @@ impl Drop for Sofar {
         let Sofar {
             lexical: _,
             syntactic: _,
-            units,
+            files,
         } = self;
-        drop(units);
+        drop(files);
     }
 }
 
@@ -51,27 +51,27 @@ impl Sofar {
                 self.syntactic = else_refusal(self.syntactic, Some(refusal));
                 Ok(())
             }
-            FileRead::Tree(unit) => self.units.push(unit),
+            FileRead::Tree(file) => self.files.push(file),
         }
     }
 
     /// The trees, or the first refusal.
-    fn into_trees(self) -> Result<UnitList, FrontRefusal>
-        ensures trees { IfOk result (λ units. (refusal_in self ≡ None) × (units ≡ self.units)) }
+    fn into_trees(self) -> Result<SourceList, FrontRefusal>
+        ensures trees { IfOk result (λ files. (refusal_in self ≡ None) × (files ≡ self.files)) }
         ensures refused { IfErr result (λ r. (f : Refusal) × (refusal_in self ≡ Some f) × (r ≡ FrontRefusal.Refused f)) }
     {
         let first = else_refusal(self.lexical, self.syntactic);
         let Sofar {
             lexical: _,
             syntactic: _,
-            units,
+            files,
         } = self;
         match first {
             Some(refusal) => {
-                drop(units);
+                drop(files);
                 Err(FrontRefusal::Refused(refusal))
             }
-            None => Ok(units),
+            None => Ok(files),
         }
     }
 }
@@ -86,7 +86,7 @@ fn found_in(alloc: Global, mut files: &[NamedBytes]) -> Result<Sofar, Starved>
     let mut found = Sofar {
         lexical: None,
         syntactic: None,
-        units: Items::new(alloc),
+        files: Items::new(alloc),
     };
     let mut number = 0;
     while let [file, rest @ ..] = files {
@@ -102,10 +102,10 @@ fn found_in(alloc: Global, mut files: &[NamedBytes]) -> Result<Sofar, Starved>
 ///
 /// There are fewer than 2^32 files, each of fewer than 2^32 - 1 bytes.
 #[tactic(auto, using(crate::proofs::Leading::refusal_in_file))]
-pub fn read_files(alloc: Global, files: &[NamedBytes]) -> Result<UnitList, FrontRefusal>
+pub fn read_files(alloc: Global, files: &[NamedBytes]) -> Result<SourceList, FrontRefusal>
     requires few { length files.now < 2 ^ 32 }
     requires short { AreShort (texts_of files.now) }
-    ensures trees { IfOk result (λ units. HaveTrees (texts_of files.now) units) }
+    ensures trees { IfOk result (λ found. HaveTrees (texts_of files.now) found) }
     ensures refused { IfErr result (λ r. HaveFirst (texts_of files.now) r) }
     ensures file { IfErr result (λ r. IsOf (length files.now) r) }
 {

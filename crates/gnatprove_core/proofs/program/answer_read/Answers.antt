@@ -1,5 +1,5 @@
-use Rattle.gnatprove_core.proofs.Ending.{refusal_answer, short_all, trees_answer}
+use Rattle.gnatprove_core.proofs.Ending.{short_all}
 use Rattle.gnatprove_core.proofs.program.answer_read.Goals as goal
 
-pub read_files-requires-clause-short : goal.read_files-requires-clause-short
-read_files-requires-clause-short c = short_all c.args.files.now c.requires.short
+pub name_files-requires-clause-short : goal.name_files-requires-clause-short
+name_files-requires-clause-short c = short_all c.args.files.now c.requires.short
