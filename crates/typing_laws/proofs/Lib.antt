@@ -7,3 +7,13 @@ pub mod Aggregated
 pub mod Indexing
 pub mod Suffixed
 pub mod Trees
+pub mod Standing
+pub mod KnownParts
+pub mod KnownArguments
+pub mod KnownRanges
+pub mod KnownBranches
+pub mod KnownAggregated
+pub mod KnownIndexing
+pub mod KnownAttributed
+pub mod KnownTrees
+pub mod Predefined

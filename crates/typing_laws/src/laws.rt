@@ -6,6 +6,9 @@ ghost use Rattle.syntax_view.specs.Trees as tree;
 ghost use Rattle.type_base.specs.Faults.{First, fault_of};
 ghost use Rattle.type_base.specs.Scope.{Scope};
 ghost use Rattle.type_base.specs.declared.seen.Want.{Want};
+ghost use Rattle.type_base.specs.Standard.{standard};
+ghost use Rattle.expression_rules.specs.Known.{IsKnown};
+ghost use Rattle.typing_laws.specs.Declared.{IsDeclared, IsGiven, IsSound, ItemDeclared};
 ghost use Rattle.typing_laws.specs.Broken.{call_faults, item_faults, name_faults, range_faults, range_in, target_faults};
 ghost use Rattle.typing_rules.specs.Fits.{found_fault};
 ghost use Rattle.typing_rules.specs.Reading.{call_seen, faults, item_seen, name_seen, seen, target_seen};
@@ -20,4 +23,12 @@ pub fn refusals_are_first()
     ensures targets { (c : Scope) (n : tree.Name) → First (found_fault (target_seen c n)) (target_faults c n) }
     ensures calls { (c : Scope) (n : tree.Name) → First (found_fault (call_seen c n)) (call_faults c n) }
     ensures ranges { (c : Scope) (r : Code) (w : Want) (t : ℕ) (g : tree.Range) → First (found_fault (range_in c r w t g)) (range_faults c r w t g) }
+{}
+
+/// Where no declaration is refused that an expression names, and what the context gives stands in the world, the expression is accepted
+/// or refused: it is never one of which nothing can be said. The world in which Standard alone is declared is such a world.
+pub fn known_where_declared()
+    ensures expressions { (c : Scope) (w : Want) → IsSound c.world → IsGiven c.world w → (e : tree.Expr) → IsDeclared c e → IsKnown c.world (seen c w e) }
+    ensures items { (c : Scope) (w : Want) → IsSound c.world → IsGiven c.world w → (i : tree.Item) → ItemDeclared c i → IsKnown c.world (item_seen c w i) }
+    ensures standard { IsSound standard }
 {}

@@ -3,4 +3,4 @@
 
 mod laws;
 
-pub use laws::refusals_are_first;
+pub use laws::{known_where_declared, refusals_are_first};
