@@ -1,3 +1,4 @@
+pub mod Circles
 mod Firsts
 pub mod Stored
 mod Told

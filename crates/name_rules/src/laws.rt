@@ -5,6 +5,8 @@
 //! file 2 to the declaration at place 20 of file 1.
 
 ghost use Rattle.std.specs.Prelude.{◌≡◌, List, [], ◌∷◌, ◌++◌, true, false, Some};
+ghost use Rattle.name_library.specs.Chains.{IsOrder, order};
+ghost use Rattle.name_library.specs.Library.{library};
 ghost use Rattle.name_library.specs.declared.events.Event.{Event};
 ghost use Rattle.name_library.specs.declared.links.NameFault.TheVariants as rule;
 ghost use Rattle.name_rules.specs.Faults.{IsFirst, answer, faults, first_of, usages};
@@ -22,6 +24,11 @@ pub fn refusals_are_first()
 pub fn answers_are_right()
     ensures refused { (files : List (List Event)) (f : Fault) → answer files ≡ Refused f → IsFirst (Some f) (faults files) }
     ensures named { (files : List (List Event)) (us : List Usage) → answer files ≡ Named us → (faults files ≡ []) × (us ≡ usages files) }
+{}
+
+/// Where a program's names are told, the order of its units leaves none out, and each comes after what it depends on.
+pub fn named_units_are_in_order()
+    ensures { (files : List (List Event)) (us : List Usage) → answer files ≡ Named us → IsOrder (library files) (order (library files)) }
 {}
 
 /// A name stands for a declaration before it, and not inside that declaration.
