@@ -1,1 +1,2 @@
 mod Balance
+pub mod Grown

@@ -1,6 +1,7 @@
 //! What holds of all files' events.
 
-ghost use Rattle.std.specs.Prelude.{◌≡◌, ℕ, Some};
+ghost use Rattle.std.specs.Prelude.{◌≡◌, ℕ, [], IsSome, Some};
+ghost use Rattle.name_library.specs.Library.{unit_after};
 ghost use Rattle.name_events.specs.Events.{events};
 ghost use Rattle.name_events.specs.Nested.{depth};
 ghost use Rattle.syntax_view.specs.Trees.{SourceUnit};
@@ -9,4 +10,9 @@ ghost use Rattle.syntax_view.specs.Trees.{SourceUnit};
 /// none closes that didn't open.
 pub fn scopes_nest()
     ensures { (n : ℕ → ℕ) (file : SourceUnit) → depth (events n file) ≡ Some 0 }
+{}
+
+/// Each file has a unit among those that are told of it.
+pub fn each_file_has_a_unit()
+    ensures { (n : ℕ → ℕ) (file : SourceUnit) (number : ℕ) → IsSome (unit_after number [] (events n file)) }
 {}

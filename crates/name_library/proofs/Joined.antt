@@ -1,6 +1,6 @@
 -- The order of a library: no edge is on a circle where no with clause leads back, and so no unit is left out.
-use Rattle.std.proofs.Common.{◌≡◌, ◌⊎◌, inl, inr, ℕ, suc, ◌≤◌, refl, sym, ap, ◌∙◌, subst, true, false, List, [], ◌∷◌, ◌++◌, Option, Some, None, arith}
-use Rattle.std.specs.Prelude.{◌==◌, ◌&&◌}
+use Rattle.std.proofs.Common.{◌≡◌, ◌⊎◌, inl, inr, ℕ, zero, suc, ◌+◌, ◌<◌, ◌≤◌, refl, sym, ap, ◌∙◌, subst, true, false, List, [], ◌∷◌, ◌++◌, length, Option, Some, None, arith}
+use Rattle.std.specs.Prelude.{Contains, is_some, ◌==◌, ◌&&◌}
 use Rattle.std.specs.List.{All, AllByRecursion}
 use Rattle.std.specs.Option.{option_to_list}
 use Rattle.std.proofs.lemmas.Bool.{and_parts, eqb-true, false_from_ne_true, false≢true, or_right}
@@ -15,7 +15,7 @@ use Rattle.name_library.specs.declared.library.LibraryUnit.{LibraryUnit}
 use Rattle.name_library.specs.declared.library.Part.{Part}
 use Rattle.name_library.specs.declared.library.Part.TheVariants as part
 use Rattle.name_library.specs.Library.{contains, declaration_of, else_unit, is_part, library, opened_ident, unit_after, unit_as, unit_opened, units_from}
-use Rattle.name_library.specs.Chains.{HasNoCircle, IsOrder, dependence_of, dependences, dependences_from, is_reached, leads_back, order, own_declaration, reached, unit_added, withs_added}
+use Rattle.name_library.specs.Chains.{HasNoCircle, IsFileOrder, IsOrder, dependence_of, dependences, dependences_from, is_reached, leads_back, order, own_declaration, reached, unit_added, withs_added}
 use Rattle.name_library.proofs.Members.{Each, contains_self, each_at}
 use Rattle.name_library.proofs.Reaching.{Closed, added_each, files_of, reached_each}
 use Rattle.name_library.proofs.Complete.{Forward, IsIn, finish, found_in}
@@ -192,6 +192,40 @@ units_above file (es ∷ more) u i = elim (in_append (option_to_list (unit_after
   | inr b ↦ let h : suc file ≤ u.spot.file = units_above (suc file) more u b in omega (arith, h)
 ]
 
+pub units_below : (file : ℕ) (files : List (List Event)) (u : LibraryUnit) → IsIn u (units_from file files) → u.spot.file < file + length files
+units_below file [] u i = absurd i
+units_below file (es ∷ more) u i = elim (in_append (option_to_list (unit_after file [] es)) (units_from (suc file) more) u i) [
+  | inl a ↦ let e : u.spot.file ≡ file = unit_file file [] es u (in_option (unit_after file [] es) u a) in omega (arith, e)
+  | inr b ↦ let h : u.spot.file < suc file + length more = units_below (suc file) more u b in omega (arith, h)
+]
+
+in_left : (xs ys : List LibraryUnit) (u : LibraryUnit) → IsIn u xs → IsIn u (xs ++ ys)
+in_left [] ys u i = absurd i
+in_left (x ∷ xs) ys u i = elim i [ inl same ↦ inl same | inr more ↦ inr (in_left xs ys u more) ]
+
+in_right : (xs ys : List LibraryUnit) (u : LibraryUnit) → IsIn u ys → IsIn u (xs ++ ys)
+in_right [] ys u i = i
+in_right (x ∷ xs) ys u i = inr (in_right xs ys u i)
+
+-- a file opens a unit, by whatever number
+abbrev pub HasUnit : List Event → Type 0
+HasUnit es = (file : ℕ) → is_some (unit_after file [] es) ≡ true
+
+first_unit : (file : ℕ) (o : Option LibraryUnit) → ((u : LibraryUnit) → o ≡ Some u → u.spot.file ≡ file) → is_some o ≡ true → (u : LibraryUnit) × (IsIn u (option_to_list o) × (u.spot.file ≡ file))
+first_unit file None f h = absurd (false≢true h)
+first_unit file (Some u) f h = (u, (inl refl, f u refl))
+
+-- the unit of a file by its number
+pub unit_there : (file : ℕ) (files : List (List Event)) (n : ℕ) → AllByRecursion HasUnit files → n < length files → (u : LibraryUnit) × (IsIn u (units_from file files) × (u.spot.file ≡ file + n))
+unit_there file [] n h l = absurd (omega (arith, l))
+unit_there file (es ∷ more) zero h l =
+    let o = unit_after file [] es in
+    let r = first_unit file o (unit_file file [] es) (h.0 file) in
+    (r.0, (in_left (option_to_list o) (units_from (suc file) more) r.0 r.1.0, (let e : r.0.spot.file ≡ file + zero = omega (arith, r.1.1) in e)))
+unit_there file (es ∷ more) (suc n) h l =
+    let r = unit_there (suc file) more n h.1 (omega (arith, l)) in
+    (r.0, (in_right (option_to_list (unit_after file [] es)) (units_from (suc file) more) r.0 r.1.0, (let e : r.0.spot.file ≡ file + suc n = omega (arith, r.1.1) in e)))
+
 some_same : (u v : LibraryUnit) → Some u ≡ Some v → u ≡ v
 some_same u v h = cc
 
@@ -245,4 +279,38 @@ whole files none =
     let l = library files in record {
       each = All-from_recursion (λ (u : LibraryUnit). contains u.spot.file (order l) ≡ true) l (each_from (λ (u : LibraryUnit). contains u.spot.file (order l) ≡ true) l l (none_left l (same_file 0 files) none));
       after = ordered l;
+    }
+
+-- ---- by the numbers of files
+
+dependence_of_in : (l us : List LibraryUnit) (e : Dependence) → IsIn e (dependences_from l us) → (u : LibraryUnit) × (IsIn u us × (u.spot.file ≡ e.file))
+dependence_of_in l [] e i = absurd i
+dependence_of_in l (u ∷ us) e i = elim i [
+  | inl same ↦ (u, (inl refl, ap (λ (x : Dependence). x.file) same))
+  | inr more ↦ let r = dependence_of_in l us e more in (r.0, (inr r.1.0, r.1.1))
+]
+
+is_in : {X : Type 0} (xs : List X) (x : X) → Contains xs x → IsIn x xs
+is_in [] x c = absurd (omega (arith, c.1))
+is_in (y ∷ ys) x (zero, l, e) = inl e
+is_in (y ∷ ys) x (suc k, l, e) = inr (is_in ys x (k, omega (arith, l), e))
+
+each_at_unit : (P : LibraryUnit → Type 0) (us : List LibraryUnit) (u : LibraryUnit) → AllByRecursion P us → IsIn u us → P u
+each_at_unit P [] u h i = absurd i
+each_at_unit P (v ∷ us) u h i = elim i [ inl same ↦ subst P same h.0 | inr more ↦ each_at_unit P us u h.1 more ]
+
+-- where each file has a unit, the order has the numbers of all files, and no other
+pub whole_by_number : (files : List (List Event)) → AllByRecursion HasUnit files → IsOrder (library files) (order (library files)) → IsFileOrder (library files) (length files) (order (library files))
+whole_by_number files units is =
+    let l = library files in record {
+      each = λ file below.
+          let r = unit_there 0 files file units below in
+          let there : contains r.0.spot.file (order l) ≡ true = each_at_unit (λ (u : LibraryUnit). contains u.spot.file (order l) ≡ true) l r.0 (recursion_from_All (λ (u : LibraryUnit). contains u.spot.file (order l) ≡ true) l is.each) r.1.0 in
+          let same : r.0.spot.file ≡ file = omega (arith, r.1.1) in
+          subst (λ (n : ℕ). contains n (order l) ≡ true) same there;
+      after = λ before rest file e.
+          let c = is.after before rest file e in
+          let d = dependence_of_in l l c.1.0 (is_in (dependences l) c.1.0 c.1.1.0) in
+          let h : d.0.spot.file < 0 + length files = units_below 0 files d.0 d.1.0 in
+          (omega (arith, h, d.1.1, c.1.1.1), c);
     }

@@ -1,5 +1,5 @@
 -- What units depend on (Ada RM 10.1.1), circles, and an order in which each unit comes after what it depends on.
-use Rattle.std.specs.Prelude.{◌≡◌, ℕ, Bool, true, false, not, ◌&&◌, ◌==◌, ◌++◌, List, [], ◌∷◌, Contains, find, length, Option, Some, None, if◌then◌else◌}
+use Rattle.std.specs.Prelude.{◌≡◌, ◌<◌, ℕ, Bool, true, false, not, ◌&&◌, ◌==◌, ◌++◌, List, [], ◌∷◌, Contains, find, length, Option, Some, None, if◌then◌else◌}
 use Rattle.std.specs.List.{All}
 use Rattle.name_library.specs.declared.circles.Dependence.{Dependence}
 use Rattle.name_library.specs.declared.events.Ident.{Ident}
@@ -114,3 +114,10 @@ pub record IsOrder (l : List LibraryUnit) (files : List ℕ) : Type 0 where
   pub each : All (λ u. contains u.spot.file files ≡ true) l
   -- each is the file of a unit, stands there once, and comes after all that its unit depends on
   pub after : (before rest : List ℕ) (file : ℕ) → files ≡ before ++ file ∷ rest → ComesAfter (dependences l) before file
+
+-- the files of so many in an order of the units
+pub record IsFileOrder (l : List LibraryUnit) (count : ℕ) (files : List ℕ) : Type 0 where
+  -- none is left out
+  pub each : (file : ℕ) → file < count → contains file files ≡ true
+  -- no other number stands there, and each once, after all that its unit depends on
+  pub after : (before rest : List ℕ) (file : ℕ) → files ≡ before ++ file ∷ rest → (file < count) × ComesAfter (dependences l) before file

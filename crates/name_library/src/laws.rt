@@ -1,10 +1,11 @@
 //! What the order of units is.
 
-ghost use Rattle.std.specs.Prelude.{◌≡◌, ℕ, List, ◌∷◌, ◌++◌};
+ghost use Rattle.std.specs.Prelude.{◌≡◌, ℕ, List, [], ◌∷◌, ◌++◌, IsSome, length};
+ghost use Rattle.std.specs.List.{All};
 ghost use Rattle.name_library.specs.declared.library.LibraryUnit.{LibraryUnit};
 ghost use Rattle.name_library.specs.declared.events.Event.{Event};
-ghost use Rattle.name_library.specs.Library.{library};
-ghost use Rattle.name_library.specs.Chains.{ComesAfter, HasNoCircle, IsOrder, dependences, order};
+ghost use Rattle.name_library.specs.Library.{library, unit_after};
+ghost use Rattle.name_library.specs.Chains.{ComesAfter, HasNoCircle, IsFileOrder, IsOrder, dependences, order};
 
 /// In the order of units each comes once, after all that it depends on.
 pub fn each_after_what_it_depends_on()
@@ -14,4 +15,9 @@ pub fn each_after_what_it_depends_on()
 /// Where no with clause is on a circle, the order leaves no unit out.
 pub fn no_unit_is_left_out()
     ensures { (files : List (List Event)) → HasNoCircle (library files) → IsOrder (library files) (order (library files)) }
+{}
+
+/// Where besides each file opens a unit, the order has the numbers of all files, each once, and no other.
+pub fn no_file_is_left_out()
+    ensures { (files : List (List Event)) → HasNoCircle (library files) → All (λ es. (file : ℕ) → IsSome (unit_after file [] es)) files → IsFileOrder (library files) (length files) (order (library files)) }
 {}

@@ -5,6 +5,8 @@ ghost use Rattle.std.specs.List.{sum_by};
 ghost use Rattle.name_resolver.specs.declared.refusals.NameRefusal.TheVariants as refusal;
 ghost use Rattle.front_codes.specs.declared.codes.Refusal.{Refusal};
 ghost use Rattle.name_resolver.specs.Resolved.{events_of, order_by, resolved, resolved_by, texts_of};
+ghost use Rattle.name_library.specs.Chains.{IsFileOrder};
+ghost use Rattle.name_library.specs.Library.{library};
 ghost use Rattle.name_numbers.specs.Numbers.{numbered};
 ghost use Rattle.text_lines.specs.Lines.{line_starts};
 
@@ -26,7 +28,7 @@ pub struct Named {
     pub lines: Items<Lines>,
     /// What each identifier stands for.
     pub links: Links,
-    /// The files in an order in which each unit comes after what it depends on.
+    /// The numbers of all files, each once, in an order in which each unit comes after what it depends on.
     pub order: Items<u32>,
 }
 
@@ -79,6 +81,7 @@ pub fn resolve(alloc: Global, files: &[SourceFile]) -> Result<Named, NameRefusal
     ensures tables { IfOk result (λ named. named.tables ≡ numbered (texts_of files.now)) }
     ensures lines { IfOk result (λ named. named.lines ≡ map line_starts (texts_of files.now)) }
     ensures order { IfOk result (λ named. named.order ≡ order_by (events_of files.now)) }
+    ensures whole { IfOk result (λ named. IsFileOrder (library (events_of files.now)) (length files.now) named.order) }
     ensures refused { IfErr result (λ r. (f : Refusal) → r ≡ refusal.Refused f → resolved files.now ≡ Err f) }
 {
     let tables = tables_of(alloc, files)?;
