@@ -171,7 +171,7 @@ abbrev pub by_in_out : Formal
 by_in_out = formal mode.InOut
 
 abbrev pub procedure_of : List Formal → List St → Routine
-procedure_of ps body = record { formals = ps; result = None; pre = None; post = None; locals = []; turns = []; indexes = []; opening = done; body = seq body }
+procedure_of ps body = record { formals = ps; result = None; pre = None; post = None; locals = []; opening = done; body = seq body }
 
 abbrev pub function_of : List Formal → List St → Routine
 function_of ps body = record (procedure_of ps body) { result = Some 0 }

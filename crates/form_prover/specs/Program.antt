@@ -48,8 +48,6 @@ procedure_of f = record {
   pre = None;
   post = None;
   locals = [];
-  turns = [];
-  indexes = [];
   opening = text.done;
   body = assertions f.params f.assertions;
 }

@@ -1,4 +1,8 @@
 pub mod Walked
 pub mod Sought
 pub mod Marked
+pub mod Complete
+pub mod Joined
+mod Members
+mod Reaching
 mod Turns

@@ -1,5 +1,6 @@
 -- What units depend on (Ada RM 10.1.1), circles, and an order in which each unit comes after what it depends on.
 use Rattle.std.specs.Prelude.{◌≡◌, ℕ, Bool, true, false, not, ◌&&◌, ◌==◌, ◌++◌, List, [], ◌∷◌, Contains, find, length, Option, Some, None, if◌then◌else◌}
+use Rattle.std.specs.List.{All}
 use Rattle.name_library.specs.declared.circles.Dependence.{Dependence}
 use Rattle.name_library.specs.declared.events.Ident.{Ident}
 use Rattle.name_library.specs.declared.library.LibraryUnit.{LibraryUnit}
@@ -102,3 +103,14 @@ order l = turns (dependences l) (dependences l) []
 -- a file comes after others where it is none of them, and where all that a unit in it depends on is among them
 abbrev pub ComesAfter : List Dependence → List ℕ → ℕ → Type 0
 ComesAfter all done file = (contains file done ≡ false) × ((e : Dependence) × (Contains all e × (e.file ≡ file) × (all_in e.on done ≡ true)))
+
+-- no with clause is on a circle: no chain leads from what it means back to its unit
+abbrev pub HasNoCircle : List LibraryUnit → Type 0
+HasNoCircle l = All (λ u. All (λ i. leads_back l i.name u.spot.file ≡ false) u.withs) l
+
+-- the files in an order of the units
+pub record IsOrder (l : List LibraryUnit) (files : List ℕ) : Type 0 where
+  -- no unit is left out
+  pub each : All (λ u. contains u.spot.file files ≡ true) l
+  -- each is the file of a unit, stands there once, and comes after all that its unit depends on
+  pub after : (before rest : List ℕ) (file : ℕ) → files ≡ before ++ file ∷ rest → ComesAfter (dependences l) before file

@@ -4,7 +4,7 @@ use Rattle.std.specs.Prelude.{if◌then◌else◌}
 use Rattle.std.specs.List.{sum_by}
 use Rattle.std.specs.Char.{to_ascii_lowercase}
 use Rattle.std.specs.Str.{bytes_eq, str_to_ascii_lowercase}
-use Rattle.std.specs.HashMap.{HashMap}
+use Rattle.std.specs.BTreeMap.{BTreeMap}
 use Rattle.std.proofs.lemmas.List.Sums.{sum_by-append, sum_by-cons}
 use Rattle.std.proofs.lemmas.List.{drop-map, get_or-map, get_or_read, length-map, map-append, take-map}
 use Rattle.ada_text.specs.declared.token.Span.{Span}
@@ -62,7 +62,7 @@ sum_now (t ∷ texts) =
 sum_append : (texts : List (List ℕ)) (text : List ℕ) → sum_by length (texts ++ text ∷ []) ≡ sum_by length texts + length text
 sum_append texts text = omega (arith, sum_by-append (length {A = ℕ}) texts (text ∷ []), sum_by-cons (length {A = ℕ}) text [])
 
-pub none : {S : Type 0} (m : HashMap (Bor (List ℕ)) ℕ S) (count : ℕ) → length known_names ≡ count → lower_cased known_names ≡ known_names → Knows m known_names → SoFar m [] count []
+pub none : (m : BTreeMap (Bor (List ℕ)) ℕ) (count : ℕ) → length known_names ≡ count → lower_cased known_names ≡ known_names → Knows m known_names → SoFar m [] count []
 none m count counted lower knows =
     let same : names_so_far [] ≡ known_names = ap lower_cased (append-nil known_names) ∙ lower in
     record {
@@ -72,7 +72,7 @@ none m count counted lower knows =
       numbered = λ more. refl;
     }
 
-pub one_more : {S : Type 0} (m n : HashMap (Bor (List ℕ)) ℕ S) (texts : List (List ℕ)) (count : ℕ) (found : List (List Ident)) (text : List ℕ) (idents : List Ident) → SoFar m texts count found → Reads (names_so_far texts) (str_to_ascii_lowercase text) (identifiers text) n idents → length idents ≤ length text → SoFar n (texts ++ text ∷ []) (count + length idents) (found ++ idents ∷ [])
+pub one_more : (m n : BTreeMap (Bor (List ℕ)) ℕ) (texts : List (List ℕ)) (count : ℕ) (found : List (List Ident)) (text : List ℕ) (idents : List Ident) → SoFar m texts count found → Reads (names_so_far texts) (str_to_ascii_lowercase text) (identifiers text) n idents → length idents ≤ length text → SoFar n (texts ++ text ∷ []) (count + length idents) (found ++ idents ∷ [])
 one_more m n texts count found text idents before reads few =
     let folded = str_to_ascii_lowercase text in
     let new = map (text_at folded) (identifiers text) in
@@ -89,7 +89,7 @@ one_more m n texts count found text idents before reads few =
           (λ j. front j ++ last j ∷ []) ∙ sym (map-append (numbered_as (names_so_far (texts ++ text ∷ []) ++ more)) texts (text ∷ []));
     }
 
-pub all : {S : Type 0} (m : HashMap (Bor (List ℕ)) ℕ S) (texts : List (List ℕ)) (count : ℕ) (found : List (List Ident)) → SoFar m texts count found → found ≡ numbered texts
+pub all : (m : BTreeMap (Bor (List ℕ)) ℕ) (texts : List (List ℕ)) (count : ℕ) (found : List (List Ident)) → SoFar m texts count found → found ≡ numbered texts
 all m texts count found so_far =
     so_far.numbered [] ∙ ap (λ ns. map (numbered_as ns) texts) (append-nil (names_so_far texts)) ∙ all_lower (known_names ++ names_in texts) texts
 

@@ -2,7 +2,7 @@
 use Rattle.std.proofs.Common.{◌≡◌, ℕ, zero, suc, ◌+◌, ◌<◌, ◌≤◌, Bool, true, false, List, [], ◌∷◌, ◌++◌, length, map, take, get_or, Option, Some, None, refl, sym, ap, ◌∙◌, subst, append_assoc, append-nil, length-append, arith, Bor}
 use Rattle.std.specs.Prelude.{option_map, if◌then◌else◌}
 use Rattle.std.specs.Str.{bytes_eq}
-use Rattle.std.specs.HashMap.{HashMap}
+use Rattle.std.specs.BTreeMap.{BTreeMap}
 use Rattle.std.proofs.lemmas.List.{length-map, map-append, take_more}
 use Rattle.ada_text.specs.declared.token.Span.{Span}
 use Rattle.ada_text.specs.declared.token.Token.{Token}
@@ -76,14 +76,14 @@ placed_more names folded spans s idents i are is at more =
     (λ j. before j ++ one j ∷ []) ∙ sym (map-append (placed all folded) spans (s ∷ []))
 
 -- one more identifier of a text
-pub reads_more : {S : Type 0} (names : List (List ℕ)) (folded : List ℕ) (spans : List Span) (s : Span) (m n : HashMap (Bor (List ℕ)) ℕ S) (idents : List Ident) (i : Ident) → Reads names folded spans m idents → KnowsName n (names ++ map (text_at folded) spans) (text_at folded s) i.name → i.at ≡ s.from → Reads names folded (spans ++ s ∷ []) n (idents ++ i ∷ [])
+pub reads_more : (names : List (List ℕ)) (folded : List ℕ) (spans : List Span) (s : Span) (m n : BTreeMap (Bor (List ℕ)) ℕ) (idents : List Ident) (i : Ident) → Reads names folded spans m idents → KnowsName n (names ++ map (text_at folded) spans) (text_at folded s) i.name → i.at ≡ s.from → Reads names folded (spans ++ s ∷ []) n (idents ++ i ∷ [])
 reads_more names folded spans s m n idents i reads knows at =
     let before = names ++ map (text_at folded) spans in
     let same : before ++ text_at folded s ∷ [] ≡ names ++ map (text_at folded) (spans ++ s ∷ []) = append_assoc names (map (text_at folded) spans) (text_at folded s ∷ []) ∙ ap (λ ts. names ++ ts) (sym (map-append (text_at folded) spans (s ∷ []))) in
     subst (λ (all : List (List ℕ)). Knows n all × ArePlaced all folded (spans ++ s ∷ []) (idents ++ i ∷ [])) same (knows.0, placed_more before folded spans s idents i reads.1 knows.1 at)
 
 -- no identifier yet
-pub reads_none : {S : Type 0} (names : List (List ℕ)) (folded : List ℕ) (m : HashMap (Bor (List ℕ)) ℕ S) → Knows m names → Reads names folded [] m []
+pub reads_none : (names : List (List ℕ)) (folded : List ℕ) (m : BTreeMap (Bor (List ℕ)) ℕ) → Knows m names → Reads names folded [] m []
 reads_none names folded m knows = (subst (λ (all : List (List ℕ)). Knows m all) (sym (append-nil names)) knows, λ more. refl)
 
 -- ---- the places of identifiers

@@ -13,10 +13,10 @@ use ada_text::{LexFault, Span, Token, TokenKind, tokens};
 use name_library::Ident;
 use sqlite_items::Items;
 use std::alloc::{AllocError, Global};
-use std::collections::HashMap;
+use std::collections::BTreeMap;
 
 /// Texts in lower case, each with the place of the first of the names that is this text.
-type Places<'a> = HashMap<&'a [u8], u32>;
+type Places<'a> = BTreeMap<&'a [u8], u32>;
 
 /// A text in lower case.
 fn in_lower_case(alloc: Global, text: &[u8]) -> Result<Items<u8>, AllocError>
@@ -44,7 +44,7 @@ fn all_in_lower_case(alloc: Global, texts: &[&[u8]]) -> Result<Items<Items<u8>>,
 fn place_of<'a>(places: &mut Places<'a>, name: &'a [u8], count: u32) -> Result<u32, AllocError>
     ensures { (names : List (List ℕ)) → Knows places.old names → length names ≡ count → IfOk result (λ place. KnowsName places.new names name.now place) }
 {
-    if let Some(place) = places.get(name).copied() {
+    if let Some(place) = places.get(&name).copied() {
         return Ok(place);
     }
     places.insert(name, count)?;
@@ -148,7 +148,7 @@ fn add_words<'a>(
 fn known_places<'a>(alloc: Global) -> Result<Places<'a>, AllocError>
     ensures { IfOk result (λ places. Knows places known_names) }
 {
-    let mut places = HashMap::new(alloc);
+    let mut places = BTreeMap::new(alloc);
     add_names(&mut places, &STANDARD_NAMES, 0)?;
     add_words(&mut places, &WORDS, 29)?;
     Ok(places)

@@ -2,12 +2,11 @@
 #![tactic(auto)]
 
 mod files;
-mod links;
 mod refusals;
 mod resolving;
 
 pub use files::SourceFile;
-pub use links::Links;
+pub use name_links::Links;
 pub use refusals::NameRefusal;
 pub use resolving::{Named, resolve};
 pub use std::alloc::AllocError as Starved;

@@ -9,9 +9,9 @@ ghost use Rattle.name_numbers.specs.Numbers.{numbered};
 ghost use Rattle.text_lines.specs.Lines.{line_starts};
 
 use crate::files::{SourceFile, all_events, lines_of, tables_of};
-use crate::links::Links;
 use crate::refusals::{NameRefusal, refusal_of};
 use name_library::{Event, Library, Usage, order};
+use name_links::Links;
 use name_numbers::NameTable;
 use name_rules::{Answer, answer_of};
 use sqlite_items::Items;

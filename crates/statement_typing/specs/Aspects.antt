@@ -1,7 +1,6 @@
 -- Pre, Post and Global. -- L28, L30, Ada RM 6.1.1, 13.1.1, SPARK RM 6.1.4
-use Rattle.std.specs.Prelude.{ℕ, zero, suc, Bool, true, false, Option, Some, None, List, [], ◌∷◌, ◌++◌, map, ◌==◌, ◌&&◌, ◌||◌, not, if◌then◌else◌}
+use Rattle.std.specs.Prelude.{ℕ, Bool, true, false, Option, Some, None, List, [], ◌∷◌, ◌++◌, ◌==◌, ◌&&◌, ◌||◌, not, if◌then◌else◌}
 use Rattle.ada_values.specs.declared.place.Place.{Place}
-use Rattle.ada_text.specs.declared.token.Span.{Span}
 use Rattle.front_codes.specs.declared.codes.Code.{Code}
 use Rattle.front_codes.specs.declared.codes.Code.TheVariants.{L28, L30}
 use Rattle.front_codes.specs.declared.codes.Refusal.{Refusal}
@@ -17,7 +16,6 @@ use Rattle.typed_units.specs.declared.programs.GlobalMode.TheVariants as mode
 use Rattle.type_base.specs.declared.entities.Entity.{Entity}
 use Rattle.type_base.specs.declared.entities.Entity.TheVariants as entity
 use Rattle.type_base.specs.declared.seen.Demand.TheVariants as demand
-use Rattle.type_base.specs.declared.seen.Moment.{Moment}
 use Rattle.type_base.specs.declared.seen.Moment.TheVariants as moment
 use Rattle.type_base.specs.declared.seen.Seen.{Seen}
 use Rattle.type_base.specs.declared.seen.Seen.TheVariants as seen'
@@ -29,13 +27,13 @@ use Rattle.type_base.specs.Standard.{boolean}
 use Rattle.syntax_view.specs.Trees as tree
 use Rattle.typing_rules.specs.declared.prefix.Found.{Found}
 use Rattle.typing_rules.specs.declared.prefix.Found.TheVariants.{Refused, Unknown, Is}
-use Rattle.typing_rules.specs.Fits.{both, found_then, with_found}
+use Rattle.typing_rules.specs.Fits.{both, with_found}
 use Rattle.typing_rules.specs.Reading.{item_seen}
 use Rattle.statement_typing.specs.Asked.{item_faults, item_place}
 use Rattle.statement_typing.specs.declared.draft.Draft.{Draft}
 use Rattle.statement_typing.specs.Checks.{all_of, broken, fault_beyond, fault_in, refuse, unless}
 use Rattle.statement_typing.specs.Subtypes.{Mark, mark, mark_of}
-use Rattle.statement_typing.specs.Files.{File, Home, place_at, scope}
+use Rattle.statement_typing.specs.Files.{Home, place_at, scope}
 use Rattle.statement_typing.specs.Objects.{changed_at}
 
 -- ---- conditions

@@ -1,5 +1,5 @@
 -- What is found of several parts, and the rules that are broken in them.
-use Rattle.std.specs.Prelude.{Bool, true, false, List, [], ◌∷◌}
+use Rattle.std.specs.Prelude.{Bool, true, false, List, [], ◌∷◌, ◌++◌}
 use Rattle.ada_values.specs.declared.place.Place.{Place}
 use Rattle.front_codes.specs.declared.codes.Code.{Code}
 use Rattle.front_codes.specs.declared.codes.Refusal.{Refusal}
@@ -21,9 +21,16 @@ unless false r p a = refuse r p
 abbrev pub and_also : {A : Type 0} → {B : Type 0} → Found A → Found B → Found A
 and_also a b = both (λ x y. x) a b
 
+-- one part more
+abbrev pub added : {A : Type 0} → Found (List A) → Found A → Found (List A)
+added done a = both (λ xs x. xs ++ (x ∷ [])) done a
+
+abbrev pub all_onto : {A : Type 0} → Found (List A) → List (Found A) → Found (List A)
+all_onto done [] = done
+all_onto done (a ∷ as') = all_onto (added done a) as'
+
 abbrev pub all_of : {A : Type 0} → List (Found A) → Found (List A)
-all_of [] = Is []
-all_of (a ∷ as') = both (λ x xs. x ∷ xs) a (all_of as')
+all_of as' = all_onto (Is []) as'
 
 -- ---- broken rules
 

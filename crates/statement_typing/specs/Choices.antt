@@ -1,5 +1,5 @@
 -- The choices of a case statement. -- L21, Ada RM 5.4
-use Rattle.std.specs.Prelude.{ℕ, suc, ℤ, pos, negsuc, ◌+ℤ◌, ◌-ℤ◌, Bool, true, false, not, Option, Some, None, List, [], ◌∷◌, ◌++◌, map, ◌&&◌, ◌||◌, if◌then◌else◌}
+use Rattle.std.specs.Prelude.{ℕ, ℤ, pos, ◌+ℤ◌, ◌-ℤ◌, Bool, true, false, not, Option, Some, None, List, [], ◌∷◌, ◌++◌, ◌&&◌, ◌||◌, if◌then◌else◌}
 use Rattle.std.specs.Ordering.{int_eq}
 use Rattle.std.specs.Int.RustNames.{int_le}
 use Rattle.ada_values.specs.declared.place.Place.{Place}
@@ -24,9 +24,8 @@ use Rattle.typing_rules.specs.declared.prefix.Found.TheVariants.{Refused, Unknow
 use Rattle.typing_rules.specs.declared.prefix.Prefix.{Prefix}
 use Rattle.typing_rules.specs.declared.prefix.Prefix.TheVariants as prefix
 use Rattle.typing_rules.specs.Fits.{both, found_then, with_found}
-use Rattle.typing_rules.specs.Reading.{faults, seen}
 use Rattle.statement_typing.specs.Asked.{high_place, low_place, name_prefix, place_of, range_faults, range_seen}
-use Rattle.statement_typing.specs.Checks.{all_of, fault_after, fault_beyond, refuse, unless}
+use Rattle.statement_typing.specs.Checks.{all_of, fault_after, refuse, unless}
 use Rattle.statement_typing.specs.Subtypes.{bounds, part, part_faults, static_in, value_of_type}
 
 -- ---- the selector

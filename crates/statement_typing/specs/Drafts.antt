@@ -1,24 +1,12 @@
 -- What is entered into a program that is being typed.
-use Rattle.std.specs.Prelude.{ℕ, zero, suc, ◌+◌, ◌-◌, ℤ, pos, Option, Some, None, List, [], ◌∷◌, ◌++◌, length}
-use Rattle.ada_values.specs.declared.values.Value.{Value}
+use Rattle.std.specs.Prelude.{ℕ, suc, ◌-◌, pos, Option, Some, None, List, [], ◌∷◌, ◌++◌, length}
 use Rattle.ada_text.specs.declared.token.Span.{Span}
-use Rattle.name_library.specs.declared.links.Spot.{Spot}
-use Rattle.typed_units.specs.declared.operators.Bounds.{Bounds}
-use Rattle.typed_units.specs.declared.programs.Global.{Global}
-use Rattle.typed_units.specs.declared.programs.Local.{Local}
-use Rattle.typed_units.specs.declared.programs.Sub.{Sub}
-use Rattle.typed_units.specs.declared.statements.Stmt.{Stmt}
 use Rattle.type_base.specs.declared.entities.Entity.{Entity}
 use Rattle.type_base.specs.declared.entities.Entity.TheVariants as entity
-use Rattle.type_base.specs.declared.world.Component.{Component}
-use Rattle.type_base.specs.declared.world.Discrete.{Discrete}
 use Rattle.type_base.specs.declared.world.Form.{Form}
 use Rattle.type_base.specs.declared.world.Form.TheVariants as form
-use Rattle.type_base.specs.declared.world.Formal.{Formal}
-use Rattle.type_base.specs.declared.world.Routine.{Routine}
 use Rattle.type_base.specs.declared.world.Subtype.{Subtype}
 use Rattle.type_base.specs.declared.world.World.{World}
-use Rattle.ada_values.specs.declared.scalars.Scalar.{Scalar}
 use Rattle.type_base.specs.Lookups.{with_entity}
 use Rattle.statement_typing.specs.declared.draft.Draft.{Draft}
 use Rattle.statement_typing.specs.Subtypes.{Noted, known, new}

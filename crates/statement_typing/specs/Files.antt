@@ -1,5 +1,5 @@
 -- The files of a program, and what a part of one is read by.
-use Rattle.std.specs.Prelude.{ℕ, suc, Bool, true, false, Option, Some, None, List, [], ◌∷◌, ◌==◌, ◌&&◌, if◌then◌else◌}
+use Rattle.std.specs.Prelude.{ℕ, suc, Bool, Option, Some, None, List, [], ◌∷◌, ◌==◌, ◌&&◌, if◌then◌else◌}
 use Rattle.ada_values.specs.declared.place.Place.{Place}
 use Rattle.ada_text.specs.declared.token.Span.{Span}
 use Rattle.name_library.specs.declared.links.Link.{Link}
@@ -7,7 +7,6 @@ use Rattle.name_library.specs.declared.links.Link.TheVariants as link
 use Rattle.name_library.specs.declared.links.Spot.{Spot}
 use Rattle.name_numbers.specs.declared.words.Word.{Word}
 use Rattle.type_base.specs.declared.seen.Moment.{Moment}
-use Rattle.type_base.specs.declared.seen.Moment.TheVariants as moment
 use Rattle.type_base.specs.declared.world.World.{World}
 use Rattle.type_base.specs.Scope.{Scope}
 use Rattle.syntax_view.specs.Trees as tree
@@ -42,7 +41,7 @@ scope h m w = record {
   number = h.number;
   own = h.own;
   moment = m;
-  indexes = [];
+  parameters = [];
 }
 
 abbrev pub place_at : Home → Span → Place

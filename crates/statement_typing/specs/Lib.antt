@@ -3,7 +3,6 @@ pub mod Aspects
 pub mod Cases
 pub mod Checks
 pub mod Choices
-pub mod Counted
 pub mod Drafts
 pub mod Files
 pub mod Numbers

@@ -1,9 +1,9 @@
 -- The numbers of indexes, loop parameters and loops: by the order of their text. The lists have their first bytes.
-use Rattle.std.specs.Prelude.{ℕ, suc, ◌+◌, Bool, true, false, Option, Some, None, List, [], ◌∷◌, ◌++◌, length, ◌==◌, ◌||◌, if◌then◌else◌}
-use Rattle.ada_text.specs.declared.token.Span.{Span}
+use Rattle.std.specs.Prelude.{ℕ, suc, Bool, true, false, Option, Some, None, List, [], ◌∷◌, ◌++◌}
 use Rattle.name_numbers.specs.declared.words.Word.{Word}
 use Rattle.name_numbers.specs.declared.words.Word.TheVariants as word
 use Rattle.syntax_view.specs.Trees as tree
+use Rattle.reading_scope.specs.declared.numbers.Numbered.{Numbered}
 
 -- ---- indexes of quantified expressions
 
@@ -209,17 +209,12 @@ abbrev mutual
   turns_in_alternatives tree.no_alternatives = []
   turns_in_alternatives (tree.alternative ks ss as') = turns_in ss ++ turns_in_alternatives as'
 
--- ---- the number at a byte
+-- ---- their numbers
 
-abbrev pub place_in : List ℕ → ℕ → ℕ
-place_in [] at = 0
-place_in (b ∷ bs) at = if b == at then 0 else suc (place_in bs at)
-
-abbrev pub stands_in : List ℕ → ℕ → Bool
-stands_in [] at = false
-stands_in (b ∷ bs) at = (b == at) || stands_in bs at
+abbrev pub numbered_from : ℕ → List ℕ → List Numbered
+numbered_from n [] = []
+numbered_from n (b ∷ bs) = record { at = b; number = n } ∷ numbered_from (suc n) bs
 
 -- indexes go on from a number; those of a contract begin with 0, and those of a body come after them
-abbrev pub number_by : ℕ → List ℕ → List ℕ → List ℕ → ℕ → ℕ
-number_by first indexes turns loops at =
-    if stands_in indexes at then first + place_in indexes at else if stands_in turns at then place_in turns at else place_in loops at
+abbrev pub numbered : ℕ → List ℕ → List ℕ → List ℕ → List Numbered
+numbered first indexes turns loops = numbered_from first indexes ++ numbered_from 0 turns ++ numbered_from 0 loops

@@ -1,5 +1,5 @@
 -- Named numbers, constants and variables. -- L8, L27, Ada RM 3.3.1, 3.3.2
-use Rattle.std.specs.Prelude.{ℕ, zero, suc, ◌+◌, ℤ, Bool, true, false, Option, Some, None, List, [], ◌∷◌, ◌++◌, length, if◌then◌else◌}
+use Rattle.std.specs.Prelude.{ℕ, zero, suc, ℤ, Bool, true, false, Option, Some, None, List, [], ◌∷◌, ◌++◌, length, if◌then◌else◌}
 use Rattle.ada_values.specs.declared.place.Place.{Place}
 use Rattle.ada_values.specs.declared.values.Value.{Value}
 use Rattle.ada_values.specs.declared.values.Value.TheVariants as value
@@ -8,10 +8,7 @@ use Rattle.front_codes.specs.declared.codes.Code.TheVariants.{L8, L27}
 use Rattle.front_codes.specs.declared.codes.Refusal.{Refusal}
 use Rattle.typed_units.specs.declared.expressions.Expr.{Expr}
 use Rattle.typed_units.specs.declared.expressions.Fitted.{Fitted}
-use Rattle.typed_units.specs.declared.expressions.Target.{Target}
-use Rattle.typed_units.specs.declared.operators.Object.{Object}
 use Rattle.typed_units.specs.declared.operators.Object.TheVariants as object
-use Rattle.typed_units.specs.declared.programs.Global.{Global}
 use Rattle.typed_units.specs.declared.statements.Action.TheVariants as action
 use Rattle.typed_units.specs.declared.statements.Stmt.{Stmt, roll-Stmt}
 use Rattle.type_base.specs.declared.entities.Access.TheVariants as access
@@ -35,7 +32,7 @@ use Rattle.statement_typing.specs.declared.draft.Draft.{Draft}
 use Rattle.statement_typing.specs.Checks.{broken, fault_after, refuse}
 use Rattle.statement_typing.specs.Subtypes.{Noted, indicated, indicated_faults, is_of_integers, part, part_faults, static_in, whole_of}
 use Rattle.statement_typing.specs.Values.{settled}
-use Rattle.statement_typing.specs.Files.{File, Home, place_at, rank, scope, spot_of}
+use Rattle.statement_typing.specs.Files.{Home, place_at, rank, scope, spot_of}
 use Rattle.statement_typing.specs.Drafts.{Entered, declare, declare_all, entered, in_world, next_subtype}
 
 -- ---- what a declaration gives

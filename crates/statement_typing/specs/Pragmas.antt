@@ -1,8 +1,6 @@
 -- Assertions, loop invariants and loop variants. -- L9, L25, Ada RM 11.4.2, SPARK RM 5.5.3
-use Rattle.std.specs.Prelude.{ℕ, Bool, true, false, Option, Some, None, List, [], ◌∷◌, ◌++◌}
+use Rattle.std.specs.Prelude.{ℕ, Bool, true, Option, Some, None, List, [], ◌++◌}
 use Rattle.ada_values.specs.declared.place.Place.{Place}
-use Rattle.ada_text.specs.declared.token.Span.{Span}
-use Rattle.front_codes.specs.declared.codes.Code.{Code}
 use Rattle.front_codes.specs.declared.codes.Code.TheVariants.{L9, L25}
 use Rattle.front_codes.specs.declared.codes.Refusal.{Refusal}
 use Rattle.name_numbers.specs.declared.words.Word.{Word}
@@ -22,10 +20,10 @@ use Rattle.type_base.specs.Standard.{integer_base}
 use Rattle.syntax_view.specs.Trees as tree
 use Rattle.typing_rules.specs.declared.prefix.Found.{Found}
 use Rattle.typing_rules.specs.declared.prefix.Found.TheVariants.{Refused, Unknown, Is}
-use Rattle.typing_rules.specs.Fits.{both, with_found}
+use Rattle.typing_rules.specs.Fits.{with_found}
 use Rattle.typing_rules.specs.Reading.{item_seen}
 use Rattle.statement_typing.specs.Asked.{item_faults, item_place}
-use Rattle.statement_typing.specs.Checks.{and_also, broken, fault_beyond, refuse}
+use Rattle.statement_typing.specs.Checks.{added, and_also, broken, fault_beyond, refuse}
 use Rattle.statement_typing.specs.Aspects.{item_condition, item_condition_faults}
 
 -- the word of an identifier that is a whole choice
@@ -108,9 +106,9 @@ abbrev pub way_faults : (ℕ → Option Word) → Scope → tree.Arg → List Re
 way_faults word c (tree.arg s k (tree.value i)) = way_by_faults c (c.place s.from) (direction_of (choice_word word k)) i
 way_faults word c (tree.arg s k tree.no_value) = broken L25 (c.place s.from)
 
-abbrev pub ways_from : (ℕ → Option Word) → Scope → tree.Args → Found (List Way)
-ways_from word c tree.no_args = Is []
-ways_from word c (tree.args a as') = both (λ w ws. w ∷ ws) (way word c a) (ways_from word c as')
+abbrev pub ways_onto : (ℕ → Option Word) → Scope → Found (List Way) → tree.Args → Found (List Way)
+ways_onto word c done tree.no_args = done
+ways_onto word c done (tree.args a as') = ways_onto word c (added done (way word c a)) as'
 
 abbrev pub ways_from_faults : (ℕ → Option Word) → Scope → tree.Args → List Refusal
 ways_from_faults word c tree.no_args = []
@@ -118,7 +116,7 @@ ways_from_faults word c (tree.args a as') = way_faults word c a ++ ways_from_fau
 
 abbrev pub ways : (ℕ → Option Word) → Scope → Place → tree.Args → Found (List Way)
 ways word c p tree.no_args = refuse L25 p
-ways word c p (tree.args a as') = ways_from word c (tree.args a as')
+ways word c p (tree.args a as') = ways_onto word c (Is []) (tree.args a as')
 
 abbrev pub ways_faults : (ℕ → Option Word) → Scope → Place → tree.Args → List Refusal
 ways_faults word c p tree.no_args = broken L25 p

@@ -1,5 +1,5 @@
 -- Profiles of subprograms. -- L27, Ada RM 6.1
-use Rattle.std.specs.Prelude.{ℕ, zero, suc, ◌+◌, Bool, true, false, Option, Some, None, List, [], ◌∷◌, ◌++◌, map, length, ◌||◌, not, if◌then◌else◌}
+use Rattle.std.specs.Prelude.{ℕ, suc, ◌+◌, Bool, true, false, Option, Some, None, List, [], ◌∷◌, ◌++◌, map, length, ◌||◌, not}
 use Rattle.ada_values.specs.declared.place.Place.{Place}
 use Rattle.ada_text.specs.declared.token.Span.{Span}
 use Rattle.ada_syntax.specs.declared.declarations.Mode.{Mode}
@@ -9,10 +9,8 @@ use Rattle.front_codes.specs.declared.codes.Refusal.{Refusal}
 use Rattle.typed_units.specs.declared.operators.Object.TheVariants as object
 use Rattle.typed_units.specs.declared.programs.Mode as typed
 use Rattle.typed_units.specs.declared.programs.Mode.TheVariants as mode
-use Rattle.typed_units.specs.declared.programs.Param.{Param}
 use Rattle.type_base.specs.declared.entities.Access.{Access}
 use Rattle.type_base.specs.declared.entities.Access.TheVariants as access
-use Rattle.type_base.specs.declared.entities.Entity.{Entity}
 use Rattle.type_base.specs.declared.entities.Entity.TheVariants as entity
 use Rattle.type_base.specs.declared.world.World.{World}
 use Rattle.type_base.specs.Lookups.{form_at}
@@ -24,7 +22,7 @@ use Rattle.typing_rules.specs.Fits.{both, found_then, with_found}
 use Rattle.statement_typing.specs.declared.draft.Draft.{Draft}
 use Rattle.statement_typing.specs.Checks.{all_of, fault_after, refuse, unless}
 use Rattle.statement_typing.specs.Subtypes.{Noted, known, new, indicated, indicated_faults, is_constrained, name_place}
-use Rattle.statement_typing.specs.Files.{File, Home}
+use Rattle.statement_typing.specs.Files.{Home}
 use Rattle.statement_typing.specs.Drafts.{declare, in_world}
 use Rattle.statement_typing.specs.Objects.{changed_at}
 

@@ -2,13 +2,10 @@
 use Rattle.std.specs.Prelude.{ℕ, Bool, true, false, not, Option, Some, None, List, [], ◌∷◌, ◌++◌, map, ◌&&◌, ◌||◌, if◌then◌else◌}
 use Rattle.ada_values.specs.declared.place.Place.{Place}
 use Rattle.ada_text.specs.declared.token.Span.{Span}
-use Rattle.front_codes.specs.declared.codes.Code.{Code}
-use Rattle.front_codes.specs.declared.codes.Code.TheVariants.{L8, L9, L12, L13, L21, L22, L24, L25}
+use Rattle.front_codes.specs.declared.codes.Code.TheVariants.{L8, L9, L13, L21, L22, L24, L25}
 use Rattle.front_codes.specs.declared.codes.Refusal.{Refusal}
-use Rattle.name_library.specs.declared.links.Spot.{Spot}
 use Rattle.name_numbers.specs.declared.words.Word.{Word}
 use Rattle.name_numbers.specs.declared.words.Word.TheVariants as word
-use Rattle.typed_units.specs.declared.expressions.Argument.{Argument}
 use Rattle.typed_units.specs.declared.expressions.Expr.{Expr}
 use Rattle.typed_units.specs.declared.expressions.Fitted.{Fitted}
 use Rattle.typed_units.specs.declared.operators.Object.TheVariants as object
@@ -16,24 +13,15 @@ use Rattle.typed_units.specs.declared.statements.Action.{Action}
 use Rattle.typed_units.specs.declared.statements.Action.TheVariants as action
 use Rattle.typed_units.specs.declared.statements.Alternative.{Alternative}
 use Rattle.typed_units.specs.declared.statements.Branch.{Branch}
-use Rattle.typed_units.specs.declared.statements.Choice.{Choice}
 use Rattle.typed_units.specs.declared.statements.Demand.{Demand}
 use Rattle.typed_units.specs.declared.statements.Demand.TheVariants as demand
 use Rattle.typed_units.specs.declared.statements.Head.{Head}
 use Rattle.typed_units.specs.declared.statements.Head.TheVariants as head
 use Rattle.typed_units.specs.declared.statements.Stmt.{Stmt, roll-Stmt}
-use Rattle.type_base.specs.declared.entities.Access.{Access}
-use Rattle.type_base.specs.declared.entities.Access.TheVariants as access
-use Rattle.type_base.specs.declared.entities.Entity.TheVariants as entity
 use Rattle.type_base.specs.declared.seen.Moment.{Moment}
 use Rattle.type_base.specs.declared.seen.Moment.TheVariants as moment
-use Rattle.type_base.specs.declared.seen.Seen.{Seen}
-use Rattle.type_base.specs.declared.seen.Seen.TheVariants as seen'
 use Rattle.type_base.specs.declared.seen.Want.{Want}
 use Rattle.type_base.specs.declared.seen.Want.TheVariants as want
-use Rattle.type_base.specs.declared.world.Routine.{Routine}
-use Rattle.type_base.specs.declared.world.World.{World}
-use Rattle.type_base.specs.Lookups.{with_entity}
 use Rattle.type_base.specs.Scope.{Scope}
 use Rattle.type_base.specs.Standard.{boolean}
 use Rattle.syntax_view.specs.Trees as tree
@@ -41,17 +29,16 @@ use Rattle.typing_rules.specs.declared.prefix.Between.{Between}
 use Rattle.typing_rules.specs.declared.prefix.Found.{Found}
 use Rattle.typing_rules.specs.declared.prefix.Found.TheVariants.{Refused, Unknown, Is}
 use Rattle.typing_rules.specs.declared.prefix.Part.{Part}
-use Rattle.typing_rules.specs.declared.prefix.Prefix.{Prefix}
-use Rattle.typing_rules.specs.declared.prefix.Prefix.TheVariants as prefix
-use Rattle.typing_rules.specs.Fits.{both, fit, found_then, with_found}
+use Rattle.typing_rules.specs.Fits.{both, fit, with_found}
+use Rattle.typing_rules.specs.Lookups.{with_parameter}
 use Rattle.typing_rules.specs.declared.prefix.Call.{Call}
 use Rattle.typing_rules.specs.Reading.{call_seen, faults, seen, target_seen}
 use Rattle.statement_typing.specs.Asked.{fault_of_name, name_faults, name_prefix, place_of, range_faults, range_seen}
-use Rattle.statement_typing.specs.Checks.{all_of, and_also, broken, fault_after, fault_beyond, fault_in, refuse, unless}
-use Rattle.statement_typing.specs.Subtypes.{heard, name_place, part, part_faults}
+use Rattle.statement_typing.specs.Checks.{added, all_of, and_also, broken, fault_in, refuse, unless}
+use Rattle.statement_typing.specs.Subtypes.{heard, part, part_faults}
 use Rattle.statement_typing.specs.Aspects.{condition}
 use Rattle.statement_typing.specs.Pragmas.{checked, checked_faults, ways, ways_faults}
-use Rattle.statement_typing.specs.Choices.{Selected, Spread, choice_seen, choices_faults, cover, cover_faults, has_others, is_others, others_last, selector, selector_want, spreads_in}
+use Rattle.statement_typing.specs.Choices.{Selected, choices_faults, cover, cover_faults, has_others, others_last, selector, selector_want, spreads_in}
 
 -- the innermost loop: its number, and that of its parameter
 pub record Loop : Type 0 where
@@ -177,18 +164,17 @@ pub record Entry : Type 0 where
   pub scope : Scope
   pub parameter : Option ℕ
 
-abbrev pub with_parameter : Scope → Span → Found Between → Scope
-with_parameter c s (Is r) =
-    record c { world = with_entity c.world (record { file = (c.place s.from).file; at = s.from }) (entity.Object r.subtype (object.Turn (c.number s.from)) access.LoopParameter) }
-with_parameter c s Unknown = c
-with_parameter c s (Refused f) = c
+abbrev pub with_turn : Scope → Span → Found Between → Scope
+with_turn c s (Is r) = with_parameter c s.from r.subtype (object.Turn (c.number s.from))
+with_turn c s Unknown = c
+with_turn c s (Refused f) = c
 
 abbrev pub entry : Scope → tree.LoopHead → Entry
 entry c tree.forever = record { head = Is head.Forever; scope = c; parameter = None }
 entry c (tree.while e) = record { head = with_found head.While (tested c e); scope = c; parameter = None }
 entry c (tree.for s b r) = record {
   head = with_found (λ x. head.For b (record { number = c.number s.from; subtype = x.subtype }) x.low x.high) (range_seen c L22 want.Free r);
-  scope = with_parameter c s (range_seen c L22 want.Free r);
+  scope = with_turn c s (range_seen c L22 want.Free r);
   parameter = Some (c.number s.from);
 }
 
@@ -266,22 +252,22 @@ stage_after after_group x = after_group
 stage_after before_group x = if is_demand x then in_group (is_variant x) else before_group
 stage_after (in_group b) x = if is_demand x then in_group (b || is_variant x) else after_group
 
-abbrev pub add_demand : Demand → Body → Body
-add_demand x y = record y { group = x ∷ y.group }
+abbrev pub add_demand : Body → Demand → Body
+add_demand y x = record y { group = y.group ++ (x ∷ []) }
 
-abbrev pub add_before : Stmt → Body → Body
-add_before x y = record y { before = x ∷ y.before }
+abbrev pub add_before : Body → Stmt → Body
+add_before y x = record y { before = y.before ++ (x ∷ []) }
 
-abbrev pub add_after : Stmt → Body → Body
-add_after x y = record y { after = x ∷ y.after }
+abbrev pub add_after : Body → Stmt → Body
+add_after y x = record y { after = y.after ++ (x ∷ []) }
 
-abbrev pub with_demand : Found Demand → Found Body → Found Body
-with_demand d b = both add_demand d b
+abbrev pub with_demand : Found Body → Found Demand → Found Body
+with_demand b d = both add_demand b d
 
-abbrev pub with_stmt : Stage → Found Stmt → Found Body → Found Body
-with_stmt before_group s b = both add_before s b
-with_stmt (in_group v) s b = both add_after s b
-with_stmt after_group s b = both add_after s b
+abbrev pub with_stmt : Stage → Found Body → Found Stmt → Found Body
+with_stmt before_group b s = both add_before b s
+with_stmt (in_group v) b s = both add_after b s
+with_stmt after_group b s = both add_after b s
 
 -- the body of a loop that begins at p
 abbrev pub inside : Around → Place → ℕ → Entry → Around
@@ -368,35 +354,40 @@ abbrev mutual
   action_at a p s tree.skip = Is action.Null
   action_at a p s (tree.call n) = invocation a.scope n
   action_at a p s (tree.assign n e) = assignment a.scope n e
-  action_at a p s (tree.branches bs ss) = both action.If (branches a bs) (stmts a ss)
+  action_at a p s (tree.branches bs ss) = both action.If (branches_onto a (Is []) bs) (stmts_onto a (Is []) ss)
   action_at a p s (tree.case_of e as') =
       case_at p (part a.scope want.Free e (selector a.scope e)) (unless (others_last as') L21 p true) (cover a.scope p (part a.scope want.Free e (selector a.scope e)) as')
-      (alternatives a (selector_want (part a.scope want.Free e (selector a.scope e))) as')
+      (alternatives_onto a (selector_want (part a.scope want.Free e (selector a.scope e))) (Is []) as')
   action_at a p s (tree.loop h ss) =
-      loop_of (a.scope.number s.from) (entry a.scope h).head (body (inside a p (a.scope.number s.from) (entry a.scope h)) before_group ss)
+      loop_of (a.scope.number s.from) (entry a.scope h).head (body_onto (inside a p (a.scope.number s.from) (entry a.scope h)) before_group (Is empty) ss)
   action_at a p s (tree.exit e) = exit_of a p e
   action_at a p s (tree.return e) = return_of a p a.returns e
   action_at a p s (tree.pragma_stmt q) = pragma_by a p (a.word q.name.from) q.args
 
-  pub stmts : Around → tree.Stmts → Found (List Stmt)
-  stmts a tree.no_stmts = Is []
-  stmts a (tree.stmts s ss) = both (λ x xs. x ∷ xs) (stmt a s) (stmts a ss)
+  -- the statements of a list, after those done already
+  pub stmts_onto : Around → Found (List Stmt) → tree.Stmts → Found (List Stmt)
+  stmts_onto a done tree.no_stmts = done
+  stmts_onto a done (tree.stmts s ss) = stmts_onto a (added done (stmt a s)) ss
 
-  pub branches : Around → tree.Branches → Found (List (Branch Stmt))
-  branches a tree.no_branches = Is []
-  branches a (tree.branch e ss bs) =
-      both (λ b xs. b ∷ xs) (both (λ x ys. record { condition = x; body = ys }) (tested a.scope e) (stmts a ss)) (branches a bs)
+  pub branches_onto : Around → Found (List (Branch Stmt)) → tree.Branches → Found (List (Branch Stmt))
+  branches_onto a done tree.no_branches = done
+  branches_onto a done (tree.branch e ss bs) =
+      branches_onto a (added done (both (λ x ys. record { condition = x; body = ys }) (tested a.scope e) (stmts_onto a (Is []) ss))) bs
 
-  pub alternatives : Around → Want → tree.Alternatives → Found (List (Alternative Stmt))
-  alternatives a w tree.no_alternatives = Is []
-  alternatives a w (tree.alternative ks ss as') = both (λ x xs. x ∷ xs) (alternative_of a.scope w ks (stmts a ss)) (alternatives a w as')
+  pub alternatives_onto : Around → Want → Found (List (Alternative Stmt)) → tree.Alternatives → Found (List (Alternative Stmt))
+  alternatives_onto a w done tree.no_alternatives = done
+  alternatives_onto a w done (tree.alternative ks ss as') =
+      alternatives_onto a w (added done (alternative_of a.scope w ks (stmts_onto a (Is []) ss))) as'
 
-  pub body : Around → Stage → tree.Stmts → Found Body
-  body a t tree.no_stmts = Is empty
-  body a t (tree.stmts s ss) =
+  pub body_onto : Around → Stage → Found Body → tree.Stmts → Found Body
+  body_onto a t done tree.no_stmts = done
+  body_onto a t done (tree.stmts s ss) =
       if is_demand (sort_of a s) && may_stand t (sort_of a s)
-      then with_demand (demand_of a (stmt_place a s) (sort_of a s)) (body a (stage_after t (sort_of a s)) ss)
-      else with_stmt t (stmt a s) (body a (stage_after t (sort_of a s)) ss)
+      then body_onto a (stage_after t (sort_of a s)) (with_demand done (demand_of a (stmt_place a s) (sort_of a s))) ss
+      else body_onto a (stage_after t (sort_of a s)) (with_stmt t done (stmt a s)) ss
+
+abbrev pub stmts : Around → tree.Stmts → Found (List Stmt)
+stmts a ss = stmts_onto a (Is []) ss
 
 abbrev mutual
   pub stmt_faults : Around → tree.Stmt → List Refusal

@@ -1,14 +1,14 @@
 -- Static bounds, subtype indications and the definitions of types. -- Ada RM 3.2.2, 3.4, 3.5, 3.6, 3.8
-use Rattle.std.specs.Prelude.{ℕ, suc, ◌+◌, ◌-◌, ℤ, pos, negsuc, Bool, true, false, Option, Some, None, List, [], ◌∷◌, ◌++◌, map, length, ◌==◌, ◌&&◌, ◌||◌, not, if◌then◌else◌}
+use Rattle.std.specs.Prelude.{ℕ, ℤ, Bool, true, false, Option, Some, None, List, [], ◌++◌, ◌==◌, if◌then◌else◌}
 use Rattle.std.specs.Int.RustNames.{int_le}
-use Rattle.ada_values.specs.Scalars.{in_base, in_scalar, within}
+use Rattle.ada_values.specs.Scalars.{in_scalar}
 use Rattle.ada_values.specs.declared.place.Place.{Place}
 use Rattle.ada_values.specs.declared.scalars.Scalar.{Scalar}
 use Rattle.ada_text.specs.declared.token.Span.{Span}
 use Rattle.front_codes.specs.declared.codes.Code.{Code}
-use Rattle.front_codes.specs.declared.codes.Code.TheVariants.{L20, L26, L29}
+use Rattle.front_codes.specs.declared.codes.Code.TheVariants.{L20, L26}
 use Rattle.front_codes.specs.declared.codes.Refusal.{Refusal}
-use Rattle.typed_units.specs.declared.expressions.Expr.{Expr, out-Expr}
+use Rattle.typed_units.specs.declared.expressions.Expr.{Expr}
 use Rattle.typed_units.specs.declared.operators.Bounds.{Bounds}
 use Rattle.type_base.specs.declared.entities.Entity.{Entity}
 use Rattle.type_base.specs.declared.entities.Entity.TheVariants as entity
@@ -16,8 +16,6 @@ use Rattle.type_base.specs.declared.seen.Seen.{Seen}
 use Rattle.type_base.specs.declared.seen.Seen.TheVariants as seen'
 use Rattle.type_base.specs.declared.seen.Want.{Want}
 use Rattle.type_base.specs.declared.seen.Want.TheVariants as want
-use Rattle.type_base.specs.declared.world.Discrete.{Discrete}
-use Rattle.type_base.specs.declared.world.Discrete.TheVariants as discrete
 use Rattle.type_base.specs.declared.world.Form.{Form}
 use Rattle.type_base.specs.declared.world.Form.TheVariants as form
 use Rattle.type_base.specs.declared.world.Subtype.{Subtype}
@@ -34,7 +32,7 @@ use Rattle.statement_typing.specs.Asked.{high_place, low_place, place_of, range_
 use Rattle.typing_rules.specs.declared.prefix.Found.{Found}
 use Rattle.typing_rules.specs.declared.prefix.Found.TheVariants.{Refused, Unknown, Is}
 use Rattle.typing_rules.specs.Fits.{both, found_then, with_found}
-use Rattle.statement_typing.specs.Checks.{all_of, and_also, broken, fault_after, fault_beyond, fault_in, refuse, unless}
+use Rattle.statement_typing.specs.Checks.{and_also, broken, fault_after, fault_beyond, refuse, unless}
 
 -- ---- static numbers
 

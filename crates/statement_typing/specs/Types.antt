@@ -1,6 +1,5 @@
 -- The definitions of types. -- Ada RM 3.4, 3.5.1, 3.5.4, 3.6, 3.8
-use Rattle.std.specs.Prelude.{ℕ, suc, ◌-◌, ◌^◌, ℤ, pos, negsuc, Bool, true, false, Option, Some, None, List, [], ◌∷◌, ◌++◌, map, length, ◌&&◌, if◌then◌else◌}
-use Rattle.std.specs.Int.RustNames.{int_le}
+use Rattle.std.specs.Prelude.{ℕ, suc, ◌-◌, ℤ, pos, negsuc, Bool, Option, Some, None, List, [], ◌∷◌, ◌++◌, map, length, ◌&&◌, if◌then◌else◌}
 use Rattle.ada_values.specs.Scalars.{within}
 use Rattle.ada_values.specs.declared.place.Place.{Place}
 use Rattle.ada_values.specs.declared.scalars.Scalar.{Scalar}
@@ -8,7 +7,6 @@ use Rattle.ada_text.specs.declared.token.Span.{Span}
 use Rattle.front_codes.specs.declared.codes.Code.TheVariants.{L20}
 use Rattle.front_codes.specs.declared.codes.Refusal.{Refusal}
 use Rattle.typed_units.specs.declared.operators.Bounds.{Bounds}
-use Rattle.type_base.specs.declared.entities.Entity.{Entity}
 use Rattle.type_base.specs.declared.entities.Entity.TheVariants as entity
 use Rattle.type_base.specs.declared.seen.Seen.{Seen}
 use Rattle.type_base.specs.declared.seen.Want.TheVariants as want
@@ -19,7 +17,7 @@ use Rattle.type_base.specs.declared.world.Form.TheVariants as form
 use Rattle.type_base.specs.declared.world.Subtype.{Subtype}
 use Rattle.type_base.specs.declared.world.World.{World}
 use Rattle.type_base.specs.Demands.{is_ordered}
-use Rattle.type_base.specs.Lookups.{form_at, subtype_at}
+use Rattle.type_base.specs.Lookups.{form_at}
 use Rattle.type_base.specs.Scope.{Scope}
 use Rattle.syntax_view.specs.Trees as tree
 use Rattle.typing_rules.specs.Reading.{faults, seen}

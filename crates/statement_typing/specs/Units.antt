@@ -1,8 +1,7 @@
 -- Declarative parts, units and the whole program. -- Ada RM 3.11, 6.3, 7, 10.1
-use Rattle.std.specs.Prelude.{ℕ, zero, suc, ◌+◌, ℤ, pos, Bool, true, false, Option, Some, None, List, [], ◌∷◌, ◌++◌, map, length, slice_get, if◌then◌else◌}
+use Rattle.std.specs.Prelude.{ℕ, zero, suc, ◌+◌, ℤ, Bool, true, false, Option, Some, None, List, [], ◌∷◌, ◌++◌, map, length, slice_get, if◌then◌else◌}
 use Rattle.ada_values.specs.declared.place.Place.{Place}
 use Rattle.ada_values.specs.declared.scalars.Scalar.{Scalar}
-use Rattle.ada_values.specs.declared.shapes.ArrayShape.{ArrayShape}
 use Rattle.ada_values.specs.declared.shapes.Shape.{Shape}
 use Rattle.ada_values.specs.declared.shapes.Shape.TheVariants as shape
 use Rattle.ada_values.specs.Scalars as scalars
@@ -10,9 +9,7 @@ use Rattle.ada_text.specs.declared.token.Span.{Span}
 use Rattle.front_codes.specs.declared.codes.Code.TheVariants.{L20}
 use Rattle.front_codes.specs.declared.codes.Refusal.{Refusal}
 use Rattle.front_codes.specs.Codes.{first_of_two}
-use Rattle.name_library.specs.declared.links.Link.{Link}
 use Rattle.name_library.specs.declared.links.Spot.{Spot}
-use Rattle.typed_units.specs.declared.expressions.Expr.{Expr}
 use Rattle.typed_units.specs.declared.operators.Bounds.{Bounds}
 use Rattle.typed_units.specs.declared.programs.Class as programs
 use Rattle.typed_units.specs.declared.programs.Class.TheVariants as class
@@ -20,7 +17,6 @@ use Rattle.typed_units.specs.declared.programs.Global.{Global}
 use Rattle.typed_units.specs.declared.programs.Program.{Program}
 use Rattle.typed_units.specs.declared.programs.Sub.{Sub}
 use Rattle.typed_units.specs.declared.programs.Type as types
-use Rattle.typed_units.specs.declared.statements.Action.{Action}
 use Rattle.typed_units.specs.declared.statements.Stmt.{Stmt}
 use Rattle.type_base.specs.declared.entities.Entity.TheVariants as entity
 use Rattle.type_base.specs.declared.entities.Meaning.{Meaning}
@@ -39,10 +35,9 @@ use Rattle.type_base.specs.Standard.{standard_subtypes}
 use Rattle.syntax_view.specs.Trees as tree
 use Rattle.typing_rules.specs.declared.prefix.Found.{Found}
 use Rattle.typing_rules.specs.declared.prefix.Found.TheVariants.{Refused, Unknown, Is}
-use Rattle.typing_rules.specs.Fits.{both}
 use Rattle.statement_typing.specs.declared.draft.Draft.{Draft}
 use Rattle.statement_typing.specs.Checks.{fault_in}
-use Rattle.statement_typing.specs.Subtypes.{Noted, indicated, indicated_faults, noted_form, noted_subtype}
+use Rattle.statement_typing.specs.Subtypes.{Noted, indicated, indicated_faults, noted_subtype}
 use Rattle.statement_typing.specs.Types.{Definition, definition, definition_faults}
 use Rattle.statement_typing.specs.Files.{File, Home, place_at, rank, scope, spot_of}
 use Rattle.statement_typing.specs.Drafts.{Entered, declare, declare_literals, next_subtype, with_subtype, with_type}
@@ -50,8 +45,8 @@ use Rattle.statement_typing.specs.Objects.{changed_at, object_declared, object_f
 use Rattle.statement_typing.specs.Routines.{marked_subtype, profile, profile_faults, result_mark, with_profile}
 use Rattle.statement_typing.specs.Aspects.{aspects_faults, aspects_found, with_aspects}
 use Rattle.statement_typing.specs.Statements.{Around, Returns, nothing, a_value, ended, pragma_by, pragma_faults, stmt_at, stmts, stmts_faults}
-use Rattle.statement_typing.specs.Numbers.{in_contract, in_decls, in_stmts, loops_in, number_by, turns_in}
-use Rattle.statement_typing.specs.Counted as counted
+use Rattle.statement_typing.specs.Numbers.{in_contract, in_decls, in_stmts, loops_in, numbered, turns_in}
+use Rattle.reading_scope.specs.Numbers.{number_in}
 
 -- ---- types and subtypes
 
@@ -105,15 +100,15 @@ number_of h s = rank h.routines (spot_of h.file s.name)
 
 -- where the contract of subprogram q stands
 abbrev pub contract_home : Home → ℕ → tree.Heading → Home
-contract_home h q s = record h { own = Some q; number = number_by 0 (in_contract h.file.word s) [] [] }
+contract_home h q s = record h { own = Some q; number = number_in (numbered 0 (in_contract h.file.word s) [] []) }
 
--- the subtypes of the contract's indexes
-abbrev pub contract_indexes : Home → World → tree.Heading → Sub → Sub
-contract_indexes h w s x = record x { indexes = counted.in_contract (scope h moment.Elsewhere w) h.file.word s }
+-- how many indexes the contract has
+abbrev pub contract_indexes : Home → tree.Heading → Sub → Sub
+contract_indexes h s x = record x { indexes = length (in_contract h.file.word s) }
 
 abbrev pub with_contract : Home → ℕ → tree.Heading → Draft → Draft
 with_contract h q s d =
-    record d { subs = changed_at q (contract_indexes (contract_home h q s) d.world s) (with_aspects q (aspects_found (contract_home h q s) d.world true [] s.aspects) d).subs }
+    record d { subs = changed_at q (contract_indexes h s) (with_aspects q (aspects_found (contract_home h q s) d.world true [] s.aspects) d).subs }
 
 abbrev pub heading_declared : Home → ℕ → tree.Heading → Draft → Draft
 heading_declared h q s d = with_contract h q s (with_profile h q s.name (profile (present (contract_home h q s) d) s) d)
@@ -134,11 +129,11 @@ with_heading_faults false h q s d = aspects_faults (contract_home h q s) d.world
 
 -- where the body of subprogram q stands, which has so many indexes in its contract
 abbrev pub body_home : Home → ℕ → ℕ → tree.Decls → tree.Stmts → Home
-body_home h q n ds ss = record h { own = Some q; number = number_by n (in_decls ds ++ in_stmts ss) (turns_in ss) (loops_in ss) }
+body_home h q n ds ss = record h { own = Some q; number = number_in (numbered n (in_decls ds ++ in_stmts ss) (turns_in ss) (loops_in ss)) }
 
 abbrev pub indexes_so_far : Option Sub → ℕ
 indexes_so_far None = 0
-indexes_so_far (Some x) = length x.indexes
+indexes_so_far (Some x) = x.indexes
 
 abbrev pub returns_of : Scope → Option tree.Name → Returns
 returns_of c None = nothing
@@ -148,42 +143,37 @@ returns_of c (Some n) = a_value (marked_subtype c (result_mark c n))
 abbrev pub opened : Draft → Draft
 opened d = record d { locals = []; opening = [] }
 
--- the declarations' indexes stand in the draft
-abbrev pub filled : Home → Draft → Place → tree.Stmts → List Stmt → Sub → Sub
-filled h d p ts ss x = record x {
+-- its declarations, its statements and what they are typed to
+abbrev pub filled : Draft → Place → tree.Decls → tree.Stmts → List Stmt → Sub → Sub
+filled d p ds ts ss x = record x {
   place = p;
   locals = d.locals;
-  turns = counted.turns_in (present h d) ts;
-  indexes = x.indexes ++ counted.in_stmts (present h d) ts;
+  turns = length (turns_in ts);
+  indexes = x.indexes + length (in_decls ds ++ in_stmts ts);
   loops = length (loops_in ts);
   opening = d.opening;
   body = ss;
 }
 
-abbrev pub with_body : Home → Place → ℕ → tree.Stmts → Found (List Stmt) → Draft → Draft
-with_body h p q ts (Is xs) d = opened (record d { subs = changed_at q (filled h d p ts xs) d.subs })
-with_body h p q ts Unknown d = opened d
-with_body h p q ts (Refused f) d = opened d
+abbrev pub with_body : Place → ℕ → tree.Decls → tree.Stmts → Found (List Stmt) → Draft → Draft
+with_body p q ds ts (Is xs) d = opened (record d { subs = changed_at q (filled d p ds ts xs) d.subs })
+with_body p q ds ts Unknown d = opened d
+with_body p q ds ts (Refused f) d = opened d
 
 -- the statements of a body whose declarations are in the draft
-abbrev pub with_statements : Home → ℕ → tree.Heading → tree.Stmts → Draft → Draft
-with_statements h q s ss d = with_body h (place_at h s.name) q ss (stmts (around h (returns_of (present h d) s.result) d.world) ss) d
+abbrev pub with_statements : Home → ℕ → tree.Heading → tree.Decls → tree.Stmts → Draft → Draft
+with_statements h q s ds ss d = with_body (place_at h s.name) q ds ss (stmts (around h (returns_of (present h d) s.result) d.world) ss) d
 
 abbrev pub statements_faults : Home → tree.Heading → tree.Stmts → Draft → List Refusal
 statements_faults h s ss d =
     stmts_faults (around h (returns_of (present h d) s.result) d.world) ss
     ++ fault_in (ended (present h d) (place_at h s.name) (returns_of (present h d) s.result) ss)
 
--- the indexes of a declaration follow those before it
-abbrev pub with_indexes : Home → Option ℕ → List ℕ → Draft → Draft
-with_indexes h None ks d = d
-with_indexes h (Some q) ks d = record d { subs = changed_at q (λ x. record x { indexes = x.indexes ++ ks }) d.subs }
-
 -- ---- declarations
 
 abbrev mutual
   pub declared : Home → tree.Decl → Draft → Draft
-  declared h (tree.declaration s f) d = declared_by h (place_at h s) f (with_indexes h h.own (counted.in_decl_form (present h d) f) d)
+  declared h (tree.declaration s f) d = declared_by h (place_at h s) f d
 
   -- p is the place of the declaration
   pub declared_by : Home → Place → tree.DeclForm → Draft → Draft
@@ -200,7 +190,7 @@ abbrev mutual
   pub body_declared : Home → ℕ → tree.Heading → tree.Body → Draft → Draft
   body_declared h q s tree.no_body d = d
   body_declared h q s (tree.body ds ss e) d =
-      with_statements (body_home h q (indexes_so_far (slice_get d.subs q)) ds ss) q s ss
+      with_statements (body_home h q (indexes_so_far (slice_get d.subs q)) ds ss) q s ds ss
       (all_declared (body_home h q (indexes_so_far (slice_get d.subs q)) ds ss) ds (opened d))
 
   pub all_declared : Home → tree.Decls → Draft → Draft
@@ -351,8 +341,8 @@ blank_sub n = record {
   post = None;
   global = None;
   locals = [];
-  turns = [];
-  indexes = [];
+  turns = 0;
+  indexes = 0;
   loops = 0;
   opening = [];
   body = [];
@@ -392,7 +382,7 @@ start fs = record {
 -- ---- units in an order in which each stands after the declarations that it withs, and a body after its declaration
 
 abbrev pub home_of : List File → File → Home
-home_of fs f = record { file = f; own = None; number = λ at. 0; globals = map (λ v. v.spot) (variables fs fs); routines = routines fs }
+home_of fs f = record { file = f; own = None; number = number_in []; globals = map (λ v. v.spot) (variables fs fs); routines = routines fs }
 
 abbrev pub file_declared : List File → Option File → Draft → Draft
 file_declared fs None d = d

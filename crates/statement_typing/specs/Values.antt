@@ -1,8 +1,7 @@
 -- The values of constants and initial values at package level: static, or aggregates of static values. -- L27
-use Rattle.std.specs.Prelude.{ℕ, zero, suc, ℤ, pos, negsuc, ◌+ℤ◌, ◌-ℤ◌, Bool, true, false, Option, Some, None, List, [], ◌∷◌, ◌++◌, map, if◌then◌else◌}
+use Rattle.std.specs.Prelude.{ℕ, zero, suc, ℤ, pos, negsuc, ◌+ℤ◌, ◌-ℤ◌, Bool, true, false, Some, None, List, [], ◌∷◌, ◌++◌, map, if◌then◌else◌}
 use Rattle.ada_values.specs.Scalars.{within}
 use Rattle.ada_values.specs.declared.place.Place.{Place}
-use Rattle.ada_values.specs.declared.values.ArrayValue.{ArrayValue}
 use Rattle.ada_values.specs.declared.values.Value.{Value}
 use Rattle.ada_values.specs.declared.values.Value.TheVariants as value
 use Rattle.front_codes.specs.declared.codes.Code.TheVariants.{L27}
@@ -16,8 +15,8 @@ use Rattle.typed_units.specs.declared.operators.Bounds.{Bounds}
 use Rattle.typed_units.specs.declared.operators.Composite.{Composite}
 use Rattle.typed_units.specs.declared.operators.Composite.TheVariants as composite
 use Rattle.typing_rules.specs.declared.prefix.Found.{Found}
-use Rattle.typing_rules.specs.declared.prefix.Found.TheVariants.{Refused, Unknown, Is}
-use Rattle.typing_rules.specs.Fits.{both, found_then, with_found}
+use Rattle.typing_rules.specs.declared.prefix.Found.TheVariants.{Is}
+use Rattle.typing_rules.specs.Fits.{with_found}
 use Rattle.statement_typing.specs.Checks.{all_of, and_also, refuse, unless}
 
 -- ---- values that are static, or aggregates of static values -- L27

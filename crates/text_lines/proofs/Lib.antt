@@ -1,2 +1,2 @@
 mod Seeking
-mod Told
+pub mod Told

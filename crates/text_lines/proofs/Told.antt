@@ -1,5 +1,5 @@
 -- The lines and columns that are found are those of the text.
-use Rattle.std.proofs.Common.{◌≡◌, ℕ, suc, ◌+◌, ◌-◌, ◌≤◌, Bool, true, false, cond, List, [], ◌∷◌, ◌++◌, length, take, drop, reverse, refl, sym, ap, ◌∙◌, subst, append_assoc, append-nil, length-append, length-drop, inl, inr, arith}
+use Rattle.std.proofs.Common.{◌≡◌, ℕ, suc, ◌+◌, ◌-◌, ◌^◌, ◌<◌, ◌≤◌, min, Bool, true, false, cond, List, [], ◌∷◌, ◌++◌, length, take, drop, reverse, refl, sym, ap, ◌∙◌, subst, append_assoc, append-nil, length-append, length-drop, inl, inr, arith}
 use Rattle.std.specs.Prelude.{count_by, ◌==◌, not}
 use Rattle.std.specs.List.{prefix_len}
 use Rattle.std.proofs.lemmas.Bool.{cases_Bool, cases_lt, cond-false, cond-true}
@@ -8,7 +8,7 @@ use Rattle.std.proofs.lemmas.List.Sums.{sum_by-cons}
 use Rattle.ada_text.specs.Bytes.{is_in_line, skipped}
 use Rattle.ada_text.specs.Places.{column_after, counted_before, line_after}
 use Rattle.ada_values.specs.declared.place.Place.{Place}
-use Rattle.text_lines.specs.Lines.{place_in, seek, starts_from}
+use Rattle.text_lines.specs.Lines.{line_starts, place_at, place_in, seek, starts_from}
 use Rattle.text_lines.proofs.Seeking.{none, passed, starts_above}
 
 abbrev is_end : ℕ → Bool
@@ -105,3 +105,13 @@ place_told text file at found within is = elim (cases_lt at (skipped text)) [
       (ap (λ f. f.0) is ∙ all.0 ∙ sym (ap line_after front))
       (column ∙ sym (ap column_after front))
 ]
+
+bounded : (n most : ℕ) → n ≤ most → min n most ≡ n
+bounded n most h = omega arith
+
+-- the place by the lines is that in the text
+pub place_by_lines : (text : List ℕ) (file at : ℕ) → at ≤ length text → at < 2 ^ 32 - 1 → place_at (line_starts text) file at ≡ place_in text file at
+place_by_lines text file at within few =
+    let found = seek 1 (skipped text) (starts_from (skipped text) (drop (skipped text) text)) at in
+    let column : min (at - found.1 + 1) (2 ^ 32 - 1) ≡ at - found.1 + 1 = bounded (at - found.1 + 1) (2 ^ 32 - 1) (omega arith) in
+    same_place file found.0 found.0 (min (at - found.1 + 1) (2 ^ 32 - 1)) (at - found.1 + 1) refl column ∙ place_told text file at found within refl

@@ -2,7 +2,7 @@
 
 ghost use Rattle.std.specs.Prelude.{◌≡◌, ℕ, ◌+◌, ◌-◌, ◌<◌, ◌≤◌, ◌^◌, List, [], ◌∷◌, IfOk, drop, length};
 ghost use Rattle.ada_text.specs.Bytes.{skipped};
-ghost use Rattle.text_lines.specs.Lines.{line_starts, place_in, seek, starts_from};
+ghost use Rattle.text_lines.specs.Lines.{line_starts, place_at, place_in, seek, starts_from};
 ghost use Rattle.text_lines.specs.Rising.{AreAbove};
 
 use ada_values::Place;
@@ -93,17 +93,25 @@ impl Lines {
         })
     }
 
-    /// The place of a byte of a file, from 0, of whose text these are the lines: as `line_col` of `ada_text` gives it. It takes a
-    /// time that grows as the logarithm of the lines' count.
-    pub fn place(&self, file: u32, at: u32) -> Place
-        requires { at < 2 ^ 32 - 1 }
-        ensures { (text : List ℕ) → self.now ≡ line_starts text → at ≤ length text → result ≡ place_in text file at }
+    /// The place of a byte of a file, from 0, by these lines: the line is the last that doesn't begin after the byte, or the first where
+    /// each does, and the column is one more than the bytes since its start, at most 2^32 - 1. It takes a time that grows as the
+    /// logarithm of the lines' count.
+    pub fn place_at(&self, file: u32, at: u32) -> Place
+        ensures { result ≡ place_at self.now file at }
     {
         let (line, start) = sought(self.first, self.more.as_slice(), at);
         Place {
             file,
             line,
-            column: at.saturating_sub(start) + 1,
+            column: at.saturating_sub(start).saturating_add(1),
         }
+    }
+
+    /// The place of a byte of a file, from 0, of whose text these are the lines: as `line_col` of `ada_text` gives it.
+    pub fn place(&self, file: u32, at: u32) -> Place
+        requires { at < 2 ^ 32 - 1 }
+        ensures { (text : List ℕ) → self.now ≡ line_starts text → at ≤ length text → result ≡ place_in text file at }
+    {
+        self.place_at(file, at)
     }
 }

@@ -2,7 +2,7 @@
 use Rattle.std.specs.Prelude.{ℕ, List, Option}
 use Rattle.ada_values.specs.declared.place.Place.{Place}
 use Rattle.name_library.specs.declared.links.Link.{Link}
-use Rattle.type_base.specs.declared.seen.Index.{Index}
+use Rattle.type_base.specs.declared.seen.Parameter.{Parameter}
 use Rattle.type_base.specs.declared.seen.Moment.{Moment}
 use Rattle.type_base.specs.declared.world.World.{World}
 
@@ -20,5 +20,5 @@ pub record Scope : Type 0 where
   -- the subprogram whose text this is
   pub own : Option ℕ
   pub moment : Moment
-  -- the indexes of the quantified expressions around it, innermost first
-  pub indexes : List Index
+  -- the parameters of the loops and the indexes of the quantified expressions around it, innermost first
+  pub parameters : List Parameter

@@ -16,7 +16,7 @@ pub use demands::{made, operand, placed_number, refused, typed};
 pub use entities::{Access, Entity, EntityTable, FileMeanings, Meaning};
 pub use front_codes::{Code, Refusal};
 pub use laws::laws_of_operators;
-pub use seen::{Agreed, Demand, Family, Index, Moment, Seen, Want};
+pub use seen::{Agreed, Demand, Family, Moment, Parameter, Seen, Want};
 pub use standard::{
     BOOLEAN, INTEGER, INTEGER_BASE, LONG, LONG_BASE, NATURAL, POSITIVE, predefined,
 };

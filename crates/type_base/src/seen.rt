@@ -3,7 +3,7 @@
 use ada_values::Op;
 use front_codes::Refusal;
 use name_library::Spot;
-use typed_units::{Connective, Expr, Relation};
+use typed_units::{Connective, Expr, Object, Relation};
 
 /// What the context of an expression gives it.
 #[derive(Clone, Copy)]
@@ -42,13 +42,13 @@ pub enum Moment {
     Elsewhere,
 }
 
-/// The index of a quantified expression: the place of its identifier, the number of its subtype, and its number in the
-/// subprogram (Ada RM 4.5.8).
+/// The parameter of a `for` loop (Ada RM 5.5), or the index of a quantified expression (Ada RM 4.5.8): the place of its
+/// identifier, the number of its subtype, and the object that it is.
 #[derive(Clone, Copy)]
-pub struct Index {
+pub struct Parameter {
     pub spot: Spot,
     pub subtype: u32,
-    pub number: u32,
+    pub object: Object,
 }
 
 /// The families of operators of two operands (Ada RM 4.5).

@@ -182,8 +182,6 @@ pub record Routine : Type 0 where
   pub pre : Option Ex
   pub post : Option Ex
   pub locals : List ℕ
-  pub turns : List ℕ
-  pub indexes : List ℕ
   pub opening : Sts
   pub body : Sts
 

@@ -175,8 +175,6 @@ routine shapes q = record {
   pre = condition_of shapes q.pre;
   post = condition_of shapes q.post;
   locals = map (λ l. l.subtype) q.locals;
-  turns = q.turns;
-  indexes = q.indexes;
   opening = stmts shapes q.opening;
   body = stmts shapes q.body;
 }

@@ -14,7 +14,7 @@ pub use expressions::{
 pub use operators::{Bounds, Composite, Connective, Counted, Object, Quantifier, Relation};
 pub use programs::{
     Class, Contract, Global, GlobalAspect, GlobalItem, GlobalMode, Inputs, Local, Mode, Param,
-    Program, SlotList, Sub, SubtypeIds, Type,
+    Program, SlotList, Sub, Type,
 };
 pub use statements::{
     Action, Alternative, Branch, Choice, Demand, Direction, Head, LoopParts, Stmt, Way,

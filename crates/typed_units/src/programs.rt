@@ -94,9 +94,6 @@ pub struct GlobalAspect {
     pub items: Items<GlobalItem>,
 }
 
-/// The numbers of subtypes.
-pub type SubtypeIds = Items<u32>;
-
 /// A subprogram, with the place of its name in its body.
 ///
 /// Its locals are numbered in order of declaration. The parameters of its `for` loops, the indexes of its quantified
@@ -112,11 +109,9 @@ pub struct Sub {
     pub post: Option<Contract>,
     pub global: Option<GlobalAspect>,
     pub locals: Items<Local>,
-    /// The subtypes of the parameters of its `for` loops, by their numbers.
-    pub turns: SubtypeIds,
-    /// The subtypes of the indexes of its quantified expressions, by their numbers.
-    pub indexes: SubtypeIds,
-    /// How many loops it has.
+    /// How many parameters of `for` loops it has, how many indexes of quantified expressions, and how many loops.
+    pub turns: u32,
+    pub indexes: u32,
     pub loops: u32,
     /// The initial values of the local objects as assignments, and the pragmas of the declarative part, in order.
     pub opening: Items<Stmt>,

@@ -139,7 +139,7 @@ scope_of q m = record {
   number = λ at. 4;
   own = q;
   moment = m;
-  indexes = [];
+  parameters = [];
 }
 
 abbrev pub scope : Scope

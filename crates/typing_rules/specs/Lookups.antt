@@ -10,12 +10,13 @@ use Rattle.name_library.specs.declared.links.Spot.{Spot}
 use Rattle.typed_units.specs.declared.expressions.Expr.{Expr}
 use Rattle.typed_units.specs.declared.expressions.ExprNode.{ExprNode}
 use Rattle.typed_units.specs.declared.operators.Bounds.{Bounds}
+use Rattle.typed_units.specs.declared.operators.Object.{Object}
 use Rattle.typed_units.specs.declared.operators.Object.TheVariants as object
 use Rattle.type_base.specs.Scope.{Scope}
 use Rattle.type_base.specs.declared.entities.Access.TheVariants as access
 use Rattle.type_base.specs.declared.entities.Entity.{Entity}
 use Rattle.type_base.specs.declared.entities.Entity.TheVariants as entity
-use Rattle.type_base.specs.declared.seen.Index.{Index}
+use Rattle.type_base.specs.declared.seen.Parameter.{Parameter}
 use Rattle.type_base.specs.declared.seen.Seen.{Seen}
 use Rattle.type_base.specs.declared.seen.Seen.TheVariants as seen
 use Rattle.type_base.specs.declared.world.Component.{Component}
@@ -28,14 +29,14 @@ use Rattle.type_base.specs.Standard.{boolean, linked}
 
 -- ---- what names stand for
 
-abbrev pub index_at : World → List Index → Spot → Entity
-index_at w [] s = linked w (link.Declared s)
-index_at w (i ∷ is) s =
-    if (i.spot.file == s.file) && (i.spot.at == s.at) then entity.Object i.subtype (object.Index i.number) access.LoopParameter
-    else index_at w is s
+abbrev pub declared_at : World → List Parameter → Spot → Entity
+declared_at w [] s = linked w (link.Declared s)
+declared_at w (i ∷ is) s =
+    if (i.spot.file == s.file) && (i.spot.at == s.at) then entity.Object i.subtype i.object access.LoopParameter
+    else declared_at w is s
 
 abbrev pub entity_by : Scope → Option Link → Entity
-entity_by c (Some (link.Declared s)) = index_at c.world c.indexes s
+entity_by c (Some (link.Declared s)) = declared_at c.world c.parameters s
 entity_by c (Some (link.Predefined n)) = linked c.world (link.Predefined n)
 entity_by c None = entity.Unknown
 
@@ -47,9 +48,13 @@ entity_of c at = entity_by c (c.link at)
 abbrev pub spot_of : Scope → ℕ → Spot
 spot_of c at = record { file = (c.place at).file; at = at }
 
--- the scope of the predicate of a quantified expression: its index stands at a byte, and has a subtype -- Ada RM 4.5.8
+-- the scope of what has a parameter or an index that stands at a byte
+abbrev pub with_parameter : Scope → ℕ → ℕ → Object → Scope
+with_parameter c at k o = record c { parameters = record { spot = spot_of c at; subtype = k; object = o } ∷ c.parameters }
+
+-- that of the predicate of a quantified expression, whose index has a subtype -- Ada RM 4.5.8
 abbrev pub with_index : Scope → ℕ → ℕ → Scope
-with_index c at k = record c { indexes = record { spot = spot_of c at; subtype = k; number = c.number at } ∷ c.indexes }
+with_index c at k = with_parameter c at k (object.Index (c.number at))
 
 -- ---- parts of subtypes
 

@@ -1,12 +1,30 @@
 -- Links of usages that grow.
-use Rattle.std.proofs.Common.{◌≡◌, Bool, true, false, cond, eqb, List, [], ◌∷◌, ◌++◌, Option, Some, None, refl, sym, ◌∙◌, subst, inl, inr}
-use Rattle.std.specs.Prelude.{is_some, if◌then◌else◌}
+use Rattle.std.proofs.Common.{◌≡◌, ℕ, arith, Bool, true, false, cond, eqb, List, [], ◌∷◌, ◌++◌, Option, Some, None, refl, sym, ◌∙◌, subst, inl, inr}
+use Rattle.std.specs.Prelude.{◌&&◌, ◌==◌, is_some, if◌then◌else◌}
+use Rattle.std.specs.declared.cmp.Ordering.{Ordering}
+use Rattle.std.specs.declared.cmp.Ordering.TheVariants.{Less, Equal, Greater}
+use Rattle.std.specs.Ordering.{is_eq, nat_cmp, ordering_then}
+use Rattle.std.proofs.lemmas.Bool.Decides.{nat_tests}
 use Rattle.std.proofs.lemmas.Bool.{and_from, and_parts, cases_Bool, cond-false, cond-true, eq-eqb, eqb-true, false≢true}
 use Rattle.name_library.specs.declared.links.Link.{Link}
 use Rattle.name_library.specs.declared.links.Spot.{Spot}
 use Rattle.name_library.specs.declared.links.Usage.{Usage}
 use Rattle.name_library.specs.Library.{same_spot}
-use Rattle.name_resolver.specs.Links.{link_at}
+use Rattle.name_links.specs.Links.{link_at, place_cmp}
+
+-- two places are one for the map exactly where they are for the list
+same_number : (m n : ℕ) → is_eq (nat_cmp m n) ≡ (m == n)
+same_number m n = grind (arith, nat_tests)
+
+both : (a b : Ordering) → is_eq (ordering_then a b) ≡ (is_eq a && is_eq b)
+both Less b = refl
+both Equal b = refl
+both Greater b = refl
+
+pub same_place : (p : Spot) (file at : ℕ) → is_eq (place_cmp (p.file, p.at) (file, at)) ≡ same_spot p (record { file = file; at = at })
+same_place p file at =
+    both (nat_cmp p.file file) (nat_cmp p.at at)
+    ∙ (λ j. same_number p.file file j && same_number p.at at j)
 
 same_is : (p q : Spot) → same_spot p q ≡ true → p ≡ q
 same_is p q e =

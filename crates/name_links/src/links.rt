@@ -1,12 +1,12 @@
 //! What identifiers stand for, to be looked up by their places.
 
 ghost use Rattle.std.specs.Prelude.{◌≡◌, IfOk};
-ghost use Rattle.name_resolver.specs.Links.{link_at};
+ghost use Rattle.name_links.specs.Links.{link_at};
 
 use name_library::{Link, Spot, Usage};
 use sqlite_items::Items;
 use std::alloc::{AllocError, Global};
-use std::collections::HashMap;
+use std::collections::BTreeMap;
 use std::marker::Model;
 
 /// The identifiers that are used, and what each stands for, in the order of files and of the text.
@@ -14,13 +14,13 @@ use std::marker::Model;
 pub struct Links {
     usages: Items<Usage>,
     /// The links by the number of the file and the first byte of the identifier.
-    by_spot: HashMap<(u32, u32), Link>,
+    by_spot: BTreeMap<(u32, u32), Link>,
 }
 
 impl Model for Links {
     ghost use Rattle.std.specs.Prelude.{List};
     ghost use Rattle.name_library.specs.declared.links.Usage.{Usage};
-    ghost use Rattle.name_resolver.specs.Links.{HasLinks};
+    ghost use Rattle.name_links.specs.Links.{HasLinks};
 
     ghost Value = { List Usage };
 
@@ -34,7 +34,7 @@ impl Links {
     pub fn new(alloc: Global, usages: Items<Usage>) -> Result<Links, AllocError>
         ensures { IfOk result (λ links. links ≡ usages) }
     {
-        let mut by_spot = HashMap::new(alloc);
+        let mut by_spot = BTreeMap::new(alloc);
         for usage in usages.as_slice() {
             let key = (usage.spot.file, usage.spot.at);
             if by_spot.contains_key(&key) {
@@ -52,7 +52,7 @@ impl Links {
         self.usages.as_slice()
     }
 
-    /// What the identifier at a place stands for; `None` where none is used there.
+    /// What the identifier at a place stands for; `None` where none is used there. Logarithmic in the number of usages.
     pub fn link_at(&self, spot: Spot) -> Option<Link>
         ensures { result ≡ link_at self.now spot }
     {

@@ -1,7 +1,7 @@
 use Rattle.std.proofs.Common.{List, ap, ◌∙◌}
 use Rattle.name_library.specs.declared.links.Usage.{Usage}
-use Rattle.name_resolver.specs.Links.{link_at}
-use Rattle.name_resolver.proofs.links.Links.link_at.Goals as goal
+use Rattle.name_links.specs.Links.{link_at}
+use Rattle.name_links.proofs.links.Links.link_at.Goals as goal
 
 pub returns : goal.returns
 returns c =

@@ -1,13 +1,14 @@
-use Rattle.std.proofs.Common.{◌≡◌, true, false, List, Option, Some, cond, get_or, take, sym, ap, ◌∙◌}
+use Rattle.std.proofs.Common.{◌≡◌, Bool, true, false, List, Option, Some, cond, get_or, take, sym, ap, ◌∙◌}
 use Rattle.std.specs.Prelude.{is_some}
+use Rattle.std.specs.BTreeMap.{get}
 use Rattle.std.proofs.lemmas.List.{take_all, take_more}
 use Rattle.name_library.specs.declared.links.Link.{Link}
 use Rattle.name_library.specs.declared.links.Link.TheVariants as link
 use Rattle.name_library.specs.declared.links.Usage.{Usage}
 use Rattle.name_library.specs.Library.{same_spot}
-use Rattle.name_resolver.specs.Links.{link_at}
-use Rattle.name_resolver.proofs.Sought.{added, kept}
-use Rattle.name_resolver.proofs.links.Links.new.Goals as goal
+use Rattle.name_links.specs.Links.{link_at, place_cmp}
+use Rattle.name_links.proofs.Sought.{added, kept, same_place}
+use Rattle.name_links.proofs.links.Links.new.Goals as goal
 
 abbrev no_usage : Usage
 no_usage = record { spot = record { file = 0; at = 0 }; link = link.Declared (record { file = 0; at = 0 }) }
@@ -28,6 +29,7 @@ loop-usage-preserved c file at =
     let u = get_or usages k no_usage in
     let none : is_some (link_at (take k usages) u.spot) ≡ false = ap is_some (sym (c.loop-usage.invariant u.spot.file u.spot.at)) ∙ sym c.contains_key.ensures ∙ c.if-contains_key.false in
     c.in_ok-insert.ensures.updates.0 (file, at)
+    ∙ ap (λ (t : Bool). cond t (Some u.link) (get place_cmp c.loop-usage.by_spot (file, at))) (same_place u.spot file at)
     ∙ ap (λ (o : Option Link). cond (same_spot u.spot (record { file = file; at = at })) (Some u.link) o) (c.loop-usage.invariant file at)
     ∙ added (take k usages) u none (record { file = file; at = at })
     ∙ ap (λ (us : List Usage). link_at us (record { file = file; at = at })) (sym (take_more usages k no_usage c.loop-usage-test.true))
