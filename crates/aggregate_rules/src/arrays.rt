@@ -4,9 +4,10 @@ ghost use Rattle.std.specs.Prelude.{◌≡◌, IfOk};
 ghost use Rattle.syntax_view.specs.View.{arg_of, expr};
 ghost use Rattle.aggregate_rules.specs.Steps.{array_made, item_gathered, item_given, rest_gathered};
 ghost use Rattle.reading_scope.specs.Scopes.{scope_of};
-ghost use Rattle.typing_rules.specs.Aggregates.{position_range, some_values, stopped};
+ghost use Rattle.typing_rules.specs.Aggregates.{misplaced, position_range, some_values, stopped};
 ghost use Rattle.typing_rules.specs.Reading.{arg};
 
+use crate::found::spoiled;
 use ada_syntax::{Arg, Expr as Tree};
 use ada_values::Place;
 use reading_scope::Scope;
@@ -93,12 +94,26 @@ pub fn rest_gathered(
     Err(AllocError)
 }
 
+fn misplaced(scope: &Scope, gathered: Gathered, at: u32) -> Gathered
+    ensures { result ≡ misplaced (scope_of scope.now) gathered at }
+{
+    let Gathered { ranges, done } = gathered;
+    let refusal = Refusal {
+        code: Code::L16,
+        place: scope.place(at),
+    };
+    Gathered {
+        ranges,
+        done: spoiled(done, refusal),
+    }
+}
+
 /// The associations of an array up to one that is out of place, which breaks L16.
 pub fn stopped(scope: &Scope, gathered: Gathered, association: &Arg<Tree>) -> ArrayItems
     ensures { result ≡ stopped (scope_of scope.now) gathered (arg (scope_of scope.now) (arg_of expr association.now)) }
 {
     ArrayItems {
-        gathered,
+        gathered: misplaced(scope, gathered, association.span.from),
         partial: true,
     }
 }

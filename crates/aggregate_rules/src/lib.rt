@@ -3,6 +3,7 @@
 
 mod arrays;
 mod covers;
+mod found;
 mod qualified;
 mod records;
 

@@ -1,17 +1,19 @@
 //! Aggregates of records (Ada RM 4.3.1).
 
-ghost use Rattle.std.specs.Prelude.{◌≡◌, IfOk};
+ghost use Rattle.std.specs.Prelude.{◌≡◌, IfOk, Some};
 ghost use Rattle.syntax_view.specs.View.{arg_of, expr};
 ghost use Rattle.aggregate_rules.specs.Steps.{association_gives, record_ended, record_made, value_given};
 ghost use Rattle.reading_scope.specs.Scopes.{scope_of};
 ghost use Rattle.typing_rules.specs.Aggregates.{first_given};
+ghost use Rattle.typing_rules.specs.Values.{component_subtype};
 
+use crate::found::spoiled;
 use ada_syntax::{Arg, Expr as Tree};
 use ada_values::Place;
 use reading_scope::Scope;
 use sqlite_items::Items;
 use std::alloc::{AllocError, Global};
-use type_base::{Component, Seen, Starved};
+use type_base::{Code, Component, Refusal, Seen, Starved};
 use typed_units::{Association, Expr};
 use typing_rules::{Found, Gives};
 
@@ -32,11 +34,23 @@ pub fn components_for(
     Err(AllocError)
 }
 
+fn component_subtype(components: &[Component], number: u32) -> u32
+    ensures { result ≡ component_subtype (Some components.now) number }
+{
+    match components.get(number as usize) {
+        Some(component) => component.subtype,
+        None => 0,
+    }
+}
+
 /// The number of the subtype of the first of these components, 0 where there is none.
 pub fn first_given(components: &[Component], numbers: &[u32]) -> u32
     ensures { result ≡ first_given components.now numbers.now }
 {
-    0
+    match numbers {
+        [first, ..] => component_subtype(components, *first),
+        [] => 0,
+    }
 }
 
 /// The association of a value for components, of which the first has this subtype. It is `Refused` by L8 where the value isn't of
@@ -64,7 +78,17 @@ pub fn record_ended(
 ) -> Found<Items<Association<Expr>>>
     ensures { result ≡ record_ended place components.now given.now done }
 {
-    done
+    if given.len() == components.len() {
+        done
+    } else {
+        spoiled(
+            done,
+            Refusal {
+                code: Code::L16,
+                place,
+            },
+        )
+    }
 }
 
 /// An aggregate of a record subtype.

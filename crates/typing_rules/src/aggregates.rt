@@ -23,32 +23,15 @@ pub enum Manner {
 }
 
 /// What is gathered of an array's associations: the ranges that they give, without `others`, and the values.
+#[derive(Drop)]
 pub struct Gathered {
     pub ranges: Found<Items<Bounds>>,
     pub done: Found<Items<Association<Expr>>>,
 }
 
-// Written out, so that crates that let it go need no proof of their own.
-impl Drop for Gathered {
-    fn drop(self) {
-        let Gathered { ranges, done } = self;
-        drop(ranges);
-        drop(done);
-    }
-}
-
 /// The associations of an array, and whether all that isn't given may be missing.
+#[derive(Drop)]
 pub struct ArrayItems {
     pub gathered: Gathered,
     pub partial: bool,
-}
-
-impl Drop for ArrayItems {
-    fn drop(self) {
-        let ArrayItems {
-            gathered,
-            partial: _,
-        } = self;
-        drop(gathered);
-    }
 }
