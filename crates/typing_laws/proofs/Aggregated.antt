@@ -25,7 +25,12 @@ use Rattle.type_base.specs.Results.{moved}
 use Rattle.type_base.proofs.Firsts.{first_listed, merge, step}
 use Rattle.typing_rules.specs.declared.prefix.Found.{Found}
 use Rattle.typing_rules.specs.declared.prefix.Found.TheVariants as found
-use Rattle.typing_rules.specs.Aggregates.{Cover, Gathered, Gives, Items, Manner, Sort, added_item, aggregate, aggregate_as, aggregate_of, arg_place, array_aggregate, by_choice, by_place, choice_done, components_for, cover_found, cover_of, covered, either, first_given, gathered, given_all, gives_else, grouped, is_end, is_only, item_found, item_value, items, items_covered, last_number, missing, none_gathered, outside, position_range, ranges_in, record_aggregate, record_by, record_parts, some_values, sort_by, sort_else, stopped, twice, unless_by_choice, unless_by_place, value_for, whole, with_rest}
+use Rattle.typing_rules.specs.declared.aggregates.ArrayItems.{ArrayItems}
+use Rattle.typing_rules.specs.declared.aggregates.Gathered.{Gathered}
+use Rattle.typing_rules.specs.declared.aggregates.Gives.{Gives}
+use Rattle.typing_rules.specs.declared.aggregates.Manner.{Manner}
+use Rattle.typing_rules.specs.declared.aggregates.Manner.TheVariants as manner
+use Rattle.typing_rules.specs.Aggregates.{Cover, Sort, added_item, aggregate, aggregate_as, aggregate_of, arg_place, array_aggregate, choice_done, components_for, cover_found, cover_of, covered, first_given, gathered, given_all, gives_else, grouped, is_end, is_only, item_found, item_value, items, items_covered, last_number, missing, none_gathered, outside, position_range, ranges_in, record_aggregate, record_by, record_parts, some_values, sort_by, sort_else, stopped, twice, unless_by_choice, unless_by_place, value_for, whole, with_rest}
 use Rattle.typing_rules.specs.Calls.{operand_of}
 use Rattle.typing_rules.specs.Faults.{aggregate_faults, all_unknown, array_faults, choice_faults, component_faults, cover_fault, empty_fault, faults_of, gives_faults, grouped_faults, item_faults, items_faults, maybe_faults, record_faults, record_faults_by, single_choice_faults, sort_faults, subtype_faults, type_faults, value_choice_faults, where_by_choice, where_by_place}
 use Rattle.typing_rules.specs.Fits.{both, fit, found_fault, found_then, spoiled, with_found}
@@ -155,32 +160,32 @@ abbrev Stop : Arg → Scope → List Refusal
 Stop x c = broken code.L16 (c.place x.from) ∷ []
 
 positional_first : (c : Scope) (a : Array) (b : Bounds) (n : ℕ) (m : Manner) (g : Gathered) (x : Arg) (xs : List Arg) (o : Operand) (ds : List Refusal) → IsFirst o → First (found_fault g.done) ds → Next c a b (suc n) xs
-    → First (found_fault (unless_by_choice m (stopped c g x) (items c a b (suc n) by_place (gathered c a g (position_range b n) (Some o)) xs)).gathered.done)
-    (ds ++ where_by_choice m (Stop x c) (item_faults c a (ranges_in (position_range b n)) false o ++ items_faults c a b (suc n) by_place xs))
-positional_first c a b n by_choice g x xs o ds h i next = stop_first g.done (broken code.L16 (c.place x.from)) ds i
-positional_first c a b n either g x xs o ds h i next =
+    → First (found_fault (unless_by_choice m (stopped c g x) (items c a b (suc n) manner.ByPlace (gathered c a g (position_range b n) (Some o)) xs)).gathered.done)
+    (ds ++ where_by_choice m (Stop x c) (item_faults c a (ranges_in (position_range b n)) false o ++ items_faults c a b (suc n) manner.ByPlace xs))
+positional_first c a b n manner.ByChoice g x xs o ds h i next = stop_first g.done (broken code.L16 (c.place x.from)) ds i
+positional_first c a b n manner.Either g x xs o ds h i next =
     let is = item_faults c a (ranges_in (position_range b n)) false o in
     let more = gathered c a g (position_range b n) (Some o) in
-    first_joined (found_fault (items c a b (suc n) by_place more xs).gathered.done) ds is (items_faults c a b (suc n) by_place xs) (next by_place more (ds ++ is) (placed_first c a g b n o ds h i))
-positional_first c a b n by_place g x xs o ds h i next =
+    first_joined (found_fault (items c a b (suc n) manner.ByPlace more xs).gathered.done) ds is (items_faults c a b (suc n) manner.ByPlace xs) (next manner.ByPlace more (ds ++ is) (placed_first c a g b n o ds h i))
+positional_first c a b n manner.ByPlace g x xs o ds h i next =
     let is = item_faults c a (ranges_in (position_range b n)) false o in
     let more = gathered c a g (position_range b n) (Some o) in
-    first_joined (found_fault (items c a b (suc n) by_place more xs).gathered.done) ds is (items_faults c a b (suc n) by_place xs) (next by_place more (ds ++ is) (placed_first c a g b n o ds h i))
+    first_joined (found_fault (items c a b (suc n) manner.ByPlace more xs).gathered.done) ds is (items_faults c a b (suc n) manner.ByPlace xs) (next manner.ByPlace more (ds ++ is) (placed_first c a g b n o ds h i))
 
 by_choice_first : (c : Scope) (a : Array) (b : Bounds) (n : ℕ) (m : Manner) (g : Gathered) (x : Arg) (xs : List Arg) (r : Found Bounds) (o : Operand) (ds rs : List Refusal) → IsFirst o → First (found_fault g.done) ds → First (found_fault r) rs → Next c a b (suc n) xs
-    → First (found_fault (unless_by_place m (stopped c g x) (items c a b (suc n) by_choice (gathered c a g (some_values (is_only n xs) (c.place x.from) r) (Some o)) xs)).gathered.done)
-    (ds ++ where_by_place m (Stop x c) ((rs ++ listed (empty_fault (is_only n xs) (c.place x.from) r) ++ item_faults c a (ranges_in r) false o) ++ items_faults c a b (suc n) by_choice xs))
-by_choice_first c a b n by_place g x xs r o ds rs h i j next = stop_first g.done (broken code.L16 (c.place x.from)) ds i
-by_choice_first c a b n either g x xs r o ds rs h i j next =
+    → First (found_fault (unless_by_place m (stopped c g x) (items c a b (suc n) manner.ByChoice (gathered c a g (some_values (is_only n xs) (c.place x.from) r) (Some o)) xs)).gathered.done)
+    (ds ++ where_by_place m (Stop x c) ((rs ++ listed (empty_fault (is_only n xs) (c.place x.from) r) ++ item_faults c a (ranges_in r) false o) ++ items_faults c a b (suc n) manner.ByChoice xs))
+by_choice_first c a b n manner.ByPlace g x xs r o ds rs h i j next = stop_first g.done (broken code.L16 (c.place x.from)) ds i
+by_choice_first c a b n manner.Either g x xs r o ds rs h i j next =
     let is = rs ++ listed (empty_fault (is_only n xs) (c.place x.from) r) ++ item_faults c a (ranges_in r) false o in
     let more = gathered c a g (some_values (is_only n xs) (c.place x.from) r) (Some o) in
-    first_joined (found_fault (items c a b (suc n) by_choice more xs).gathered.done) ds is (items_faults c a b (suc n) by_choice xs)
-    (next by_choice more (ds ++ is) (chosen_first c a g r (is_only n xs) (c.place x.from) o ds rs h i j))
-by_choice_first c a b n by_choice g x xs r o ds rs h i j next =
+    first_joined (found_fault (items c a b (suc n) manner.ByChoice more xs).gathered.done) ds is (items_faults c a b (suc n) manner.ByChoice xs)
+    (next manner.ByChoice more (ds ++ is) (chosen_first c a g r (is_only n xs) (c.place x.from) o ds rs h i j))
+by_choice_first c a b n manner.ByChoice g x xs r o ds rs h i j next =
     let is = rs ++ listed (empty_fault (is_only n xs) (c.place x.from) r) ++ item_faults c a (ranges_in r) false o in
     let more = gathered c a g (some_values (is_only n xs) (c.place x.from) r) (Some o) in
-    first_joined (found_fault (items c a b (suc n) by_choice more xs).gathered.done) ds is (items_faults c a b (suc n) by_choice xs)
-    (next by_choice more (ds ++ is) (chosen_first c a g r (is_only n xs) (c.place x.from) o ds rs h i j))
+    first_joined (found_fault (items c a b (suc n) manner.ByChoice more xs).gathered.done) ds is (items_faults c a b (suc n) manner.ByChoice xs)
+    (next manner.ByChoice more (ds ++ is) (chosen_first c a g r (is_only n xs) (c.place x.from) o ds rs h i j))
 
 rest_first : (c : Scope) (a : Array) (g : Gathered) (x : Arg) (o : Operand) (b : Bool) (ds : List Refusal) → IsFirst o → First (found_fault g.done) ds
     → First (found_fault (if b then with_rest c a g o else stopped c g x).gathered.done) (ds ++ (if b then item_faults c a [] true o else Stop x c))
@@ -190,18 +195,18 @@ rest_first c a g x o true ds h i =
 rest_first c a g x o false ds h i = stop_first g.done (broken code.L16 (c.place x.from)) ds i
 
 -- an association by its choice and its value
-abbrev one : Scope → Array → Bounds → ℕ → Manner → Gathered → Arg → List Arg → Sort → Items
+abbrev one : Scope → Array → Bounds → ℕ → Manner → Gathered → Arg → List Arg → Sort → ArrayItems
 one c a b n m g x xs s =
     sort_else s (stopped c g x)
-    (λ o. unless_by_choice m (stopped c g x) (items c a b (suc n) by_place (gathered c a g (position_range b n) (Some o)) xs))
-    (λ r o. unless_by_place m (stopped c g x) (items c a b (suc n) by_choice (gathered c a g (some_values (is_only n xs) (c.place x.from) r) (Some o)) xs))
+    (λ o. unless_by_choice m (stopped c g x) (items c a b (suc n) manner.ByPlace (gathered c a g (position_range b n) (Some o)) xs))
+    (λ r o. unless_by_place m (stopped c g x) (items c a b (suc n) manner.ByChoice (gathered c a g (some_values (is_only n xs) (c.place x.from) r) (Some o)) xs))
     (λ o. if is_end xs then with_rest c a g o else stopped c g x)
 
 abbrev one_faults : Scope → Array → Bounds → ℕ → Manner → Arg → List Arg → Choice → Sort → List Refusal
 one_faults c a b n m x xs h s =
     sort_faults s (Stop x c)
-    (λ o. where_by_choice m (Stop x c) (item_faults c a (ranges_in (position_range b n)) false o ++ items_faults c a b (suc n) by_place xs))
-    (λ r o. where_by_place m (Stop x c) ((choice_faults c (type_of c.world a.index) h ++ listed (empty_fault (is_only n xs) (c.place x.from) r) ++ item_faults c a (ranges_in r) false o) ++ items_faults c a b (suc n) by_choice xs))
+    (λ o. where_by_choice m (Stop x c) (item_faults c a (ranges_in (position_range b n)) false o ++ items_faults c a b (suc n) manner.ByPlace xs))
+    (λ r o. where_by_place m (Stop x c) ((choice_faults c (type_of c.world a.index) h ++ listed (empty_fault (is_only n xs) (c.place x.from) r) ++ item_faults c a (ranges_in r) false o) ++ items_faults c a b (suc n) manner.ByChoice xs))
     (λ o. if is_end xs then item_faults c a [] true o else Stop x c)
 
 one_first : (c : Scope) (a : Array) (b : Bounds) (n : ℕ) (m : Manner) (g : Gathered) (x : Arg) (xs : List Arg) (h : Choice) (v : Option Operand) (ds : List Refusal) → ChoiceFirst h → MaybeFirst v → First (found_fault g.done) ds → Next c a b (suc n) xs
@@ -239,12 +244,12 @@ covered_is c p b as' z found.Unknown done = sym (merge_none (found_fault done))
 
 array_first : (c : Scope) (p : Place) (k : ℕ) (a : Array) (b : Bounds) (as' : List Arg) → ArgsFirst as' → First (fault_of (array_aggregate c p k a b as')) (array_faults c p a b as')
 array_first c p k a b as' h =
-    let i = items c a b 0 either none_gathered as' in
+    let i = items c a b 0 manner.Either none_gathered as' in
     let x = items_covered c p b as' i in
-    step (found_fault i.gathered.done) (cover_fault c p b as' i) (fault_of (array_aggregate c p k a b as')) (items_faults c a b 0 either as')
+    step (found_fault i.gathered.done) (cover_fault c p b as' i) (fault_of (array_aggregate c p k a b as')) (items_faults c a b 0 manner.Either as')
     (seen_then_is x (λ xs. seen_as c p k (node.Aggregate composite.Array b xs)) (λ xs. seen_as_is c p k (node.Aggregate composite.Array b xs))
     ∙ covered_is c p b as' i.partial i.gathered.ranges i.gathered.done)
-    (items_first c a b 0 either none_gathered as' [] h refl)
+    (items_first c a b 0 manner.Either none_gathered as' [] h refl)
 
 -- ---- all of them
 

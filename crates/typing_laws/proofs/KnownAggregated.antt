@@ -24,7 +24,12 @@ use Rattle.type_base.specs.Results.{moved}
 use Rattle.expression_rules.specs.Known.{IsKnown}
 use Rattle.typing_rules.specs.declared.prefix.Found.{Found}
 use Rattle.typing_rules.specs.declared.prefix.Found.TheVariants as found
-use Rattle.typing_rules.specs.Aggregates.{Cover, Gathered, Gives, Items, Manner, Sort, aggregate, aggregate_as, aggregate_of, all_take, arg_place, array_aggregate, by_choice, by_place, choice_done, component_by, components_for, cover_found, cover_of, covered, either, first_given, gathered, given_all, gives_else, gives_value, grouped, is_empty, is_end, is_only, item_found, item_value, items, items_covered, last_number, missing, none_gathered, not_given, one_given, outside, position_open, position_range, ranges_in, record_by, record_parts, rest_given, some_values, sort_by, sort_else, stopped, twice, unless_by_choice, unless_by_place, value_for, whole, with_rest}
+use Rattle.typing_rules.specs.declared.aggregates.ArrayItems.{ArrayItems}
+use Rattle.typing_rules.specs.declared.aggregates.Gathered.{Gathered}
+use Rattle.typing_rules.specs.declared.aggregates.Gives.{Gives}
+use Rattle.typing_rules.specs.declared.aggregates.Manner.{Manner}
+use Rattle.typing_rules.specs.declared.aggregates.Manner.TheVariants as manner
+use Rattle.typing_rules.specs.Aggregates.{Cover, Sort, aggregate, aggregate_as, aggregate_of, all_take, arg_place, array_aggregate, choice_done, component_by, components_for, cover_found, cover_of, covered, first_given, gathered, given_all, gives_else, gives_value, grouped, is_empty, is_end, is_only, item_found, item_value, items, items_covered, last_number, missing, none_gathered, not_given, one_given, outside, position_open, position_range, ranges_in, record_by, record_parts, rest_given, some_values, sort_by, sort_else, stopped, twice, unless_by_choice, unless_by_place, value_for, whole, with_rest}
 use Rattle.typing_rules.specs.Calls.{given_by, is_among, operand_of, still_open}
 use Rattle.typing_rules.specs.Fits.{both, fit, spoiled, with_found}
 use Rattle.typing_rules.specs.Lookups.{Array, components_at, place_among, seen_as, type_of}
@@ -155,29 +160,29 @@ abbrev Next : Scope → Array → Bounds → ℕ → List Arg → Type 0
 Next c a b n xs = (m : Manner) (g : Gathered) → IsFound g.done → IsFound (items c a b n m g xs).gathered.done
 
 positional_found : (c : Scope) (a : Array) (b : Bounds) (n : ℕ) (m : Manner) (g : Gathered) (x : Arg) (xs : List Arg) (o : Operand) → IsSound c.world → IsThere c.world a.item → OperandKnown c.world o → IsFound g.done → Next c a b (suc n) xs
-    → IsFound (unless_by_choice m (stopped c g x) (items c a b (suc n) by_place (gathered c a g (position_range b n) (Some o)) xs)).gathered.done
-positional_found c a b n by_choice g x xs o sound h i j next = spoiled_found g.done (broken code.L16 (c.place x.from))
-positional_found c a b n either g x xs o sound h i j next = next by_place (gathered c a g (position_range b n) (Some o)) (gathered_found c a g (position_range b n) o sound h i j tt)
-positional_found c a b n by_place g x xs o sound h i j next = next by_place (gathered c a g (position_range b n) (Some o)) (gathered_found c a g (position_range b n) o sound h i j tt)
+    → IsFound (unless_by_choice m (stopped c g x) (items c a b (suc n) manner.ByPlace (gathered c a g (position_range b n) (Some o)) xs)).gathered.done
+positional_found c a b n manner.ByChoice g x xs o sound h i j next = spoiled_found g.done (broken code.L16 (c.place x.from))
+positional_found c a b n manner.Either g x xs o sound h i j next = next manner.ByPlace (gathered c a g (position_range b n) (Some o)) (gathered_found c a g (position_range b n) o sound h i j tt)
+positional_found c a b n manner.ByPlace g x xs o sound h i j next = next manner.ByPlace (gathered c a g (position_range b n) (Some o)) (gathered_found c a g (position_range b n) o sound h i j tt)
 
 by_choice_found : (c : Scope) (a : Array) (b : Bounds) (n : ℕ) (m : Manner) (g : Gathered) (x : Arg) (xs : List Arg) (r : Found Bounds) (o : Operand) → IsSound c.world → IsThere c.world a.item → OperandKnown c.world o → IsFound g.done → IsFound r → Next c a b (suc n) xs
-    → IsFound (unless_by_place m (stopped c g x) (items c a b (suc n) by_choice (gathered c a g (some_values (is_only n xs) (c.place x.from) r) (Some o)) xs)).gathered.done
-by_choice_found c a b n by_place g x xs r o sound h i j k next = spoiled_found g.done (broken code.L16 (c.place x.from))
-by_choice_found c a b n either g x xs r o sound h i j k next =
-    let s = some_values (is_only n xs) (c.place x.from) r in next by_choice (gathered c a g s (Some o)) (gathered_found c a g s o sound h i j (some_found (is_only n xs) (c.place x.from) r k))
-by_choice_found c a b n by_choice g x xs r o sound h i j k next =
-    let s = some_values (is_only n xs) (c.place x.from) r in next by_choice (gathered c a g s (Some o)) (gathered_found c a g s o sound h i j (some_found (is_only n xs) (c.place x.from) r k))
+    → IsFound (unless_by_place m (stopped c g x) (items c a b (suc n) manner.ByChoice (gathered c a g (some_values (is_only n xs) (c.place x.from) r) (Some o)) xs)).gathered.done
+by_choice_found c a b n manner.ByPlace g x xs r o sound h i j k next = spoiled_found g.done (broken code.L16 (c.place x.from))
+by_choice_found c a b n manner.Either g x xs r o sound h i j k next =
+    let s = some_values (is_only n xs) (c.place x.from) r in next manner.ByChoice (gathered c a g s (Some o)) (gathered_found c a g s o sound h i j (some_found (is_only n xs) (c.place x.from) r k))
+by_choice_found c a b n manner.ByChoice g x xs r o sound h i j k next =
+    let s = some_values (is_only n xs) (c.place x.from) r in next manner.ByChoice (gathered c a g s (Some o)) (gathered_found c a g s o sound h i j (some_found (is_only n xs) (c.place x.from) r k))
 
 rest_if : (c : Scope) (a : Array) (g : Gathered) (x : Arg) (o : Operand) (b : Bool) → IsSound c.world → IsThere c.world a.item → OperandKnown c.world o → IsFound g.done → IsFound (if b then with_rest c a g o else stopped c g x).gathered.done
 rest_if c a g x o true sound h i j =
     let y = item_found c a.item [] true (Some o) in both_found (λ ys z. ys ++ (z ∷ [])) g.done y j (item_found_found c a.item [] true o sound h i)
 rest_if c a g x o false sound h i j = spoiled_found g.done (broken code.L16 (c.place x.from))
 
-abbrev one : Scope → Array → Bounds → ℕ → Manner → Gathered → Arg → List Arg → Sort → Items
+abbrev one : Scope → Array → Bounds → ℕ → Manner → Gathered → Arg → List Arg → Sort → ArrayItems
 one c a b n m g x xs s =
     sort_else s (stopped c g x)
-    (λ o. unless_by_choice m (stopped c g x) (items c a b (suc n) by_place (gathered c a g (position_range b n) (Some o)) xs))
-    (λ r o. unless_by_place m (stopped c g x) (items c a b (suc n) by_choice (gathered c a g (some_values (is_only n xs) (c.place x.from) r) (Some o)) xs))
+    (λ o. unless_by_choice m (stopped c g x) (items c a b (suc n) manner.ByPlace (gathered c a g (position_range b n) (Some o)) xs))
+    (λ r o. unless_by_place m (stopped c g x) (items c a b (suc n) manner.ByChoice (gathered c a g (some_values (is_only n xs) (c.place x.from) r) (Some o)) xs))
     (λ o. if is_end xs then with_rest c a g o else stopped c g x)
 
 one_item_found : (c : Scope) (a : Array) (b : Bounds) (n : ℕ) (m : Manner) (g : Gathered) (x : Arg) (xs : List Arg) (h : Choice) (v : Option Operand) → IsSound c.world → IsThere c.world a.index → IsThere c.world a.item → ChoiceKnown c.world h → MaybeKnown c.world v → IsFound g.done → Next c a b (suc n) xs
@@ -212,9 +217,9 @@ covered_found c p b as' z found.Unknown done h = h
 
 array_known : (c : Scope) (p : Place) (k : ℕ) (a : Array) (b : Bounds) (as' : List Arg) → IsSound c.world → IsThere c.world k → IsThere c.world a.index → IsThere c.world a.item → ArgsKnown c.world as' → IsKnown c.world (array_aggregate c p k a b as')
 array_known c p k a b as' sound h z j l =
-    let i = items c a b 0 either none_gathered as' in
+    let i = items c a b 0 manner.Either none_gathered as' in
     then_known c.world (items_covered c p b as' i) (λ xs. seen_as c p k (node.Aggregate composite.Array b xs))
-    (covered_found c p b as' i.partial i.gathered.ranges i.gathered.done (items_found c a b 0 either none_gathered as' sound z j l tt)) (λ xs. seen_as_known c p k (node.Aggregate composite.Array b xs) sound h)
+    (covered_found c p b as' i.partial i.gathered.ranges i.gathered.done (items_found c a b 0 manner.Either none_gathered as' sound z j l tt)) (λ xs. seen_as_known c p k (node.Aggregate composite.Array b xs) sound h)
 
 -- ---- all of them
 

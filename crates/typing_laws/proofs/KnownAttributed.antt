@@ -31,7 +31,7 @@ use Rattle.type_base.specs.declared.world.Subtype.{Subtype}
 use Rattle.type_base.specs.declared.world.World.{World}
 use Rattle.type_base.specs.Demands.{bounds_at, check_in, is_integer, is_whole, known, made, number_as, refused, subtype_of, wanted_integer}
 use Rattle.type_base.specs.Lookups.{form_at, form_in, subtype_at, type_in}
-use Rattle.type_base.specs.Results.{number_in}
+use Rattle.type_base.specs.Results.{number_in, universal}
 use Rattle.type_base.specs.Standard.{integer_base}
 use Rattle.expression_rules.specs.Known.{IsKnown, SameSort}
 use Rattle.typing_rules.specs.declared.prefix.Mapping.{Mapping}
@@ -40,7 +40,7 @@ use Rattle.typing_rules.specs.declared.prefix.Part.{Part}
 use Rattle.typing_rules.specs.declared.prefix.Prefix.{Prefix}
 use Rattle.typing_rules.specs.declared.prefix.Prefix.TheVariants as prefix
 use Rattle.typing_rules.specs.Attributes.{Bounded, attribute_by, bound, bound_at, bound_node, bound_of, bounded, bounded_by, bounds_static, constant_bounded, entry_at, entry_node, is_mapped, known_bounds, left_out, length_at, literal, literal_by, literal_of, mapped, mapped_by, mapping_by, mapping_of, next, next_node, next_of, next_value, no_array, of_value, old_at, old_node, only_components, part_bounded, position, position_of, range_at, range_by, range_from, result, result_by, result_in, scalar_bound, static, static_in, subtype_bounded, unclear, unfit, value_bounded, value_bounded_by, value_by, value_then, whole_then}
-use Rattle.typing_rules.specs.Lookups.{Array, array_at, number_or, seen_as, type_of}
+use Rattle.typing_rules.specs.Lookups.{Array, array_at, number_or, seen_as, size_of, type_of}
 use Rattle.typing_rules.specs.Names.{of_type, of_type_by, typed_as}
 use Rattle.typing_rules.specs.Parts.{Operand}
 use Rattle.typing_rules.specs.Values.{part_value, place_of, prefix_fault, seen_of, value_of}
@@ -134,7 +134,7 @@ bound_known c p z (prefix.Part g) sound h = bound_at_known c p z (bounded c p (p
 bound_known c p z (prefix.Value s) sound h = bound_at_known c p z (bounded c p (prefix.Value s)) sound (bounded_known c p (prefix.Value s) sound h)
 
 length_known : (c : Scope) (v : Want) (p t : Place) (b : Bounded) → IsSound c.world → IsThere c.world (wanted_integer c.world v) → BoundedKnown c.world b → IsKnown c.world (length_at c v p t b)
-length_known c v p t (static i b) sound g h = tt
+length_known c v p t (static i b) sound g h = either_known c.world (in_base universal (size_of b)) (seen.Number (size_of b)) (refused code.TooWide p) tt tt
 length_known c v p t (known_bounds i b x) sound g h = seen_as_known c p (wanted_integer c.world v) (node.Length t x) sound g
 length_known c v p t (of_value i x) sound g h = seen_as_known c p (wanted_integer c.world v) (node.Length t x) sound g
 length_known c v p t no_array sound g h = tt

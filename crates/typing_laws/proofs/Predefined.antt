@@ -1,10 +1,11 @@
--- The world in which Standard alone is declared is sound.
+-- The world in which Standard alone is declared is sound, and so is that of the worked cases.
 use Rattle.std.proofs.Common.{◌≡◌, refl, ap, subst, ℕ, zero, suc, List, [], ◌∷◌, slice_get, Option, Some, None}
 use Rattle.type_base.specs.declared.world.Routine.{Routine}
 use Rattle.type_base.specs.declared.world.Subtype.{Subtype}
 use Rattle.type_base.specs.declared.world.World.{World}
 use Rattle.type_base.specs.Standard.{standard, standard_subtypes}
-use Rattle.typing_laws.specs.Declared.{IsSound, IsWhole, ResultThere}
+use Rattle.typing_rules.specs.Cases.{arg, call, id, name, scope}
+use Rattle.typing_laws.specs.Declared.{IsDeclared, IsSound, IsWhole, ResultThere}
 use Rattle.typing_laws.proofs.Standing.{no_some}
 
 abbrev AllWhole : World → List Subtype → Type 0
@@ -52,3 +53,85 @@ standard_sound = record {
   formals = tt;
   results = no_results;
 }
+
+-- ---- the worked cases
+
+abbrev AllResults : World → List Routine → Type 0
+AllResults w [] = Unit {0}
+AllResults w (r ∷ rs) = ResultThere w r.result × AllResults w rs
+
+abbrev or_routine : Routine → Option Routine → Routine
+or_routine r (Some z) = z
+or_routine r None = r
+
+result_at : (w : World) (rs : List Routine) → AllResults w rs → (q : ℕ) (r : Routine) → slice_get rs q ≡ Some r → ResultThere w r.result
+result_at w [] h q r e = no_some r e
+result_at w (z ∷ rs) h zero r e = subst (λ (x : Routine). ResultThere w x.result) (ap (or_routine r) e) h.0
+result_at w (z ∷ rs) h (suc q) r e = result_at w rs h.1 q r e
+
+cases_whole : AllWhole scope.world scope.world.subtypes
+cases_whole = (
+  record { type = record { subtype = _; is = refl }; sort = tt; parts = tt },
+  (
+    record { type = record { subtype = _; is = refl }; sort = tt; parts = tt },
+    (
+      record { type = record { subtype = _; is = refl }; sort = tt; parts = tt },
+      (
+        record { type = record { subtype = _; is = refl }; sort = tt; parts = tt },
+        (
+          record { type = record { subtype = _; is = refl }; sort = tt; parts = tt },
+          (
+            record { type = record { subtype = _; is = refl }; sort = tt; parts = tt },
+            (
+              record { type = record { subtype = _; is = refl }; sort = tt; parts = tt },
+              (
+                record { type = record { subtype = _; is = refl }; sort = tt; parts = tt },
+                (
+                  record { type = record { subtype = _; is = refl }; sort = tt; parts = tt },
+                  (
+                    record { type = record { subtype = _; is = refl }; sort = tt; parts = tt },
+                    (
+                      record { type = record { subtype = _; is = refl }; sort = tt; parts = tt },
+                      (
+                        record { type = record { subtype = _; is = refl }; sort = tt; parts = (record { subtype = _; is = refl }, record { subtype = _; is = refl }) },
+                        (
+                          record { type = record { subtype = _; is = refl }; sort = tt; parts = (record { subtype = _; is = refl }, record { subtype = _; is = refl }) },
+                          (
+                            record { type = record { subtype = _; is = refl }; sort = tt; parts = (record { subtype = _; is = refl }, record { subtype = _; is = refl }) },
+                            (
+                              record { type = record { subtype = _; is = refl }; sort = tt; parts = tt },
+                              (
+                                record { type = record { subtype = _; is = refl }; sort = tt; parts = tt },
+                                (record { type = record { subtype = _; is = refl }; sort = tt; parts = tt }, tt),
+                              ),
+                            ),
+                          ),
+                        ),
+                      ),
+                    ),
+                  ),
+                ),
+              ),
+            ),
+          ),
+        ),
+      ),
+    ),
+  ),
+)
+
+cases_results : AllResults scope.world scope.world.routines
+cases_results = (record { subtype = _; is = refl }, (tt, (record { subtype = _; is = refl }, tt)))
+
+pub cases_sound : IsSound scope.world
+cases_sound = record {
+  standard = record { truth = refl; integer = _; integer_is = refl };
+  subtypes = whole_at scope.world scope.world.subtypes cases_whole;
+  components = (record { subtype = _; is = refl }, (record { subtype = _; is = refl }, tt));
+  formals = (record { subtype = _; is = refl }, (record { subtype = _; is = refl }, (record { subtype = _; is = refl }, tt)));
+  results = result_at scope.world scope.world.routines cases_results;
+}
+
+-- an item of an array by a variable, in these cases
+pub case_declared : IsDeclared scope (name 163 (call (arg 360 (id 360) ∷ []) ∷ []))
+case_declared = (record { subtype = _; is = refl }, (((((record { subtype = _; is = refl }, tt), tt), tt), tt)))

@@ -1,6 +1,6 @@
 //! Which refusal an expression gives.
 
-ghost use Rattle.std.specs.Prelude.{ℕ};
+ghost use Rattle.std.specs.Prelude.{ℕ, [], ◌∷◌};
 ghost use Rattle.front_codes.specs.declared.codes.Code.{Code};
 ghost use Rattle.syntax_view.specs.Trees as tree;
 ghost use Rattle.type_base.specs.Faults.{First, fault_of};
@@ -10,6 +10,7 @@ ghost use Rattle.type_base.specs.Standard.{standard};
 ghost use Rattle.expression_rules.specs.Known.{IsKnown};
 ghost use Rattle.typing_laws.specs.Declared.{IsDeclared, IsGiven, IsSound, ItemDeclared};
 ghost use Rattle.typing_laws.specs.Broken.{call_faults, item_faults, name_faults, range_faults, range_in, target_faults};
+ghost use Rattle.typing_rules.specs.Cases.{arg, call, id, name, scope};
 ghost use Rattle.typing_rules.specs.Fits.{found_fault};
 ghost use Rattle.typing_rules.specs.Reading.{call_seen, faults, item_seen, name_seen, seen, target_seen};
 ghost use Rattle.typing_rules.specs.Values.{prefix_fault};
@@ -26,9 +27,11 @@ pub fn refusals_are_first()
 {}
 
 /// Where no declaration is refused that an expression names, and what the context gives stands in the world, the expression is accepted
-/// or refused: it is never one of which nothing can be said. The world in which Standard alone is declared is such a world.
+/// or refused: it is never one of which nothing can be said. The worlds of Standard alone and of the worked cases are such worlds.
 pub fn known_where_declared()
     ensures expressions { (c : Scope) (w : Want) → IsSound c.world → IsGiven c.world w → (e : tree.Expr) → IsDeclared c e → IsKnown c.world (seen c w e) }
     ensures items { (c : Scope) (w : Want) → IsSound c.world → IsGiven c.world w → (i : tree.Item) → ItemDeclared c i → IsKnown c.world (item_seen c w i) }
     ensures standard { IsSound standard }
+    ensures cases { IsSound scope.world }
+    ensures declared { IsDeclared scope (name 163 (call (arg 360 (id 360) ∷ []) ∷ [])) }
 {}

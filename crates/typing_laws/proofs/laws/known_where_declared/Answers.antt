@@ -1,5 +1,5 @@
 use Rattle.typing_laws.proofs.KnownTrees.{expression_known, item_seen_known}
-use Rattle.typing_laws.proofs.Predefined.{standard_sound}
+use Rattle.typing_laws.proofs.Predefined.{case_declared, cases_sound, standard_sound}
 use Rattle.typing_laws.proofs.laws.known_where_declared.Goals as goal
 
 pub returns-clause-expressions : goal.returns-clause-expressions
@@ -10,3 +10,9 @@ returns-clause-items c = item_seen_known
 
 pub returns-clause-standard : goal.returns-clause-standard
 returns-clause-standard c = standard_sound
+
+pub returns-clause-cases : goal.returns-clause-cases
+returns-clause-cases c = cases_sound
+
+pub returns-clause-declared : goal.returns-clause-declared
+returns-clause-declared c = case_declared
