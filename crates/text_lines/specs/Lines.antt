@@ -1,5 +1,5 @@
 -- The lines of a text.
-use Rattle.std.specs.Prelude.{ℕ, ◌+◌, ◌==◌, nat_le, List, [], ◌∷◌, drop, if◌then◌else◌}
+use Rattle.std.specs.Prelude.{ℕ, ◌+◌, ◌-◌, ◌^◌, ◌==◌, nat_le, min, List, [], ◌∷◌, drop, if◌then◌else◌}
 use Rattle.ada_text.specs.Bytes.{skipped}
 use Rattle.ada_text.specs.Places.{column_after, counted_before, line_after}
 use Rattle.ada_values.specs.declared.place.Place.{Place}
@@ -23,3 +23,11 @@ line_starts text = skipped text ∷ starts_from (skipped text) (drop (skipped te
 abbrev pub seek : ℕ → ℕ → List ℕ → ℕ → ℕ × ℕ
 seek line start [] at = (line, start)
 seek line start (s ∷ ss) at = if nat_le s at then seek (line + 1) s ss at else (line, start)
+
+abbrev pub place_by : ℕ → ℕ × ℕ → ℕ → Place
+place_by file l at = record { file = file; line = l.0; column = min (at - l.1) (2 ^ 32 - 2) + 1 }
+
+-- the place of a byte by the first bytes of the lines
+abbrev pub place_at : List ℕ → ℕ → ℕ → Place
+place_at [] file at = place_by file (1, 0) at
+place_at (s ∷ ss) file at = place_by file (seek 1 s ss at) at

@@ -2,7 +2,7 @@
 
 ghost use Rattle.std.specs.Prelude.{◌≡◌, ℕ, ◌+◌, ◌-◌, ◌<◌, ◌≤◌, ◌^◌, List, [], ◌∷◌, IfOk, drop, length};
 ghost use Rattle.ada_text.specs.Bytes.{skipped};
-ghost use Rattle.text_lines.specs.Lines.{line_starts, place_in, seek, starts_from};
+ghost use Rattle.text_lines.specs.Lines.{line_starts, place_at, place_in, seek, starts_from};
 ghost use Rattle.text_lines.specs.Rising.{AreAbove};
 
 use ada_values::Place;
@@ -104,6 +104,19 @@ impl Lines {
             file,
             line,
             column: at.saturating_sub(start) + 1,
+        }
+    }
+
+    /// The place of a byte of a file, from 0, by these lines. A column past 2^32 - 1 is told as that. It takes a time that grows as
+    /// the logarithm of the lines' count.
+    pub fn place_at(&self, file: u32, at: u32) -> Place
+        ensures { result ≡ place_at self.now file at }
+    {
+        let (line, start) = sought(self.first, self.more.as_slice(), at);
+        Place {
+            file,
+            line,
+            column: at.saturating_sub(start).min(u32::MAX - 1) + 1,
         }
     }
 }
