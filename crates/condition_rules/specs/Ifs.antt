@@ -7,7 +7,7 @@ use Rattle.front_codes.specs.declared.codes.Code.TheVariants as code
 use Rattle.typed_units.specs.declared.expressions.Arm.{Arm}
 use Rattle.typed_units.specs.declared.expressions.Expr.{Expr}
 use Rattle.typed_units.specs.declared.expressions.ExprNode.TheVariants as node
-use Rattle.type_base.specs.Demands.{made}
+use Rattle.type_base.specs.Demands.{made, subtype_of, wanted_integer}
 use Rattle.type_base.specs.Scope.{Scope}
 use Rattle.type_base.specs.Standard.{boolean}
 use Rattle.type_base.specs.declared.seen.Seen.{Seen}
@@ -17,11 +17,13 @@ use Rattle.typing_rules.specs.declared.prefix.Found.{Found}
 use Rattle.typing_rules.specs.declared.prefix.Found.TheVariants.{Refused, Unknown, Is}
 use Rattle.typing_rules.specs.Conditions.{Common, branch_by, common_by, condition, first_typed, if_found, number_seen, pick, truth_found}
 use Rattle.typing_rules.specs.Fits.{both}
+use Rattle.typing_rules.specs.Lookups.{type_of}
 use Rattle.typing_rules.specs.Parts.{Operand}
 use Rattle.typing_rules.specs.Parts as parts
 use Rattle.typing_rules.specs.Values.{place_of, seen_of}
 use Rattle.condition_rules.specs.declared.branches.ReadArm.{ReadArm}
 use Rattle.condition_rules.specs.declared.branches.ReadBranch.{ReadBranch}
+use Rattle.condition_rules.specs.declared.common.Common.{Common as KeptCommon}
 
 -- ---- what is read of the parts, where the context gives the branches this
 
@@ -79,3 +81,25 @@ if_read_by c p w as' e None = typed_if c p (common_by c w (typed_read as' e)) as
 -- an if-expression whose branches were read for this
 abbrev pub if_read : Scope → Place → Want → List ReadArm → Option ReadBranch → Seen
 if_read c p w as' e = if_read_by c p w as' e (number_else as' e)
+
+-- ---- as the code keeps and computes them
+
+abbrev pub common : KeptCommon → Common
+common k = record { type = k.ty; subtype = k.subtype }
+
+abbrev pub seen_subtype : Seen → Option ℕ
+seen_subtype (seen.Typed t x) = Some (subtype_of x)
+seen_subtype _ = None
+
+abbrev pub subtype_or : Option ℕ → Option ℕ → Option ℕ
+subtype_or (Some k) o = Some k
+subtype_or None o = o
+
+-- the subtype of the first branch that has a type
+abbrev pub subtype_read : List ReadArm → Seen → Option ℕ
+subtype_read [] s = seen_subtype s
+subtype_read (a ∷ as') s = subtype_or (seen_subtype a.gives.seen) (subtype_read as' s)
+
+abbrev pub common_from : Scope → Want → Option ℕ → Common
+common_from c w (Some k) = record { type = type_of c.world k; subtype = k }
+common_from c w None = record { type = wanted_integer c.world w; subtype = wanted_integer c.world w }

@@ -16,32 +16,17 @@ use typing_rules::Found;
 use value_rules::found_expr;
 
 /// A branch of an if-expression: the place where it begins, and what is seen of it.
+#[derive(Drop)]
 pub struct ReadBranch {
     pub place: Place,
     pub seen: Seen,
 }
 
-// Written out, so that crates that let a branch go need no proof of their own.
-impl Drop for ReadBranch {
-    fn drop(self) {
-        let ReadBranch { place: _, seen } = self;
-        drop(seen);
-    }
-}
-
 /// A condition of an if-expression, by L9, and the branch that it chooses.
+#[derive(Drop)]
 pub struct ReadArm {
     pub condition: Found<Expr>,
     pub gives: ReadBranch,
-}
-
-// Written out, so that crates that let an arm go need no proof of their own.
-impl Drop for ReadArm {
-    fn drop(self) {
-        let ReadArm { condition, gives } = self;
-        drop(condition);
-        drop(gives);
-    }
 }
 
 /// What has been seen at a place, which by a rule is to be Boolean.
