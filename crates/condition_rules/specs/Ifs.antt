@@ -14,7 +14,7 @@ use Rattle.type_base.specs.declared.seen.Seen.{Seen}
 use Rattle.type_base.specs.declared.seen.Seen.TheVariants as seen
 use Rattle.type_base.specs.declared.seen.Want.{Want}
 use Rattle.typing_rules.specs.declared.prefix.Found.{Found}
-use Rattle.typing_rules.specs.declared.prefix.Found.TheVariants.{Refused, Unknown, Is}
+use Rattle.typing_rules.specs.declared.prefix.Found.TheVariants.{Is}
 use Rattle.typing_rules.specs.Conditions.{Common, branch_by, common_by, condition, first_typed, if_found, number_seen, pick, truth_found}
 use Rattle.typing_rules.specs.Fits.{both}
 use Rattle.typing_rules.specs.Lookups.{type_of}
