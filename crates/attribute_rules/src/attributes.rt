@@ -59,28 +59,26 @@ fn attribute_by(
 ) -> Result<Prefix, Starved>
     ensures { IfOk result (λ f. f ≡ attribute_by (scope_of scope.now) want place prefix tick attribute) }
 {
-    let seen = match attribute {
-        Some(Word::First) => bound(alloc, scope, place, true, prefix)?,
-        Some(Word::Last) => bound(alloc, scope, place, false, prefix)?,
-        Some(Word::Length) => length_of(alloc, scope, want, place, prefix, tick)?,
-        Some(Word::Succ) => {
-            return mapping_of(alloc, scope, place, Mapping::Succ, tick, prefix);
+    match attribute {
+        Some(Word::First) => Ok(Prefix::Value(bound(alloc, scope, place, true, prefix)?)),
+        Some(Word::Last) => Ok(Prefix::Value(bound(alloc, scope, place, false, prefix)?)),
+        Some(Word::Length) => {
+            let seen = length_of(alloc, scope, want, place, prefix, tick)?;
+            Ok(Prefix::Value(seen))
         }
-        Some(Word::Pred) => {
-            return mapping_of(alloc, scope, place, Mapping::Pred, tick, prefix);
-        }
-        Some(Word::Pos) => return mapping_of(alloc, scope, place, Mapping::Pos, tick, prefix),
-        Some(Word::Val) => return mapping_of(alloc, scope, place, Mapping::Val, tick, prefix),
-        Some(Word::Old) => old_at(alloc, scope, place, prefix)?,
-        Some(Word::LoopEntry) => entry_at(alloc, scope, place, prefix)?,
-        Some(Word::Result) => result_of(alloc, scope, place, prefix)?,
+        Some(Word::Succ) => mapping_of(alloc, scope, place, Mapping::Succ, tick, prefix),
+        Some(Word::Pred) => mapping_of(alloc, scope, place, Mapping::Pred, tick, prefix),
+        Some(Word::Pos) => mapping_of(alloc, scope, place, Mapping::Pos, tick, prefix),
+        Some(Word::Val) => mapping_of(alloc, scope, place, Mapping::Val, tick, prefix),
+        Some(Word::Old) => Ok(Prefix::Value(old_at(alloc, scope, place, prefix)?)),
+        Some(Word::LoopEntry) => Ok(Prefix::Value(entry_at(alloc, scope, place, prefix)?)),
+        Some(Word::Result) => Ok(Prefix::Value(result_of(alloc, scope, place, prefix)?)),
         _ => {
             let fault = prefix_fault(&prefix);
             drop(prefix);
-            return Ok(left_out(place, fault));
+            Ok(left_out(place, fault))
         }
-    };
-    Ok(Prefix::Value(seen))
+    }
 }
 
 /// An attribute of a prefix: `place` is that of the name, `tick` and `at` are the bytes of the tick and of the attribute's

@@ -1,8 +1,12 @@
 //! Copies of expressions.
 
 ghost use Rattle.std.specs.Prelude.{◌≡◌, IfOk};
+ghost use Rattle.expression_copies.specs.Forms.{one_node, three_node, two_node};
+ghost use Rattle.typed_units.specs.declared.expressions.ExprNode.TheVariants as node';
 
 use crate::Starved;
+use crate::forms::{One, Three, Two, one_node, three_node, two_node};
+use ada_values::Value;
 use sqlite_items::{Boxed, Items};
 use std::alloc::Global;
 use typed_units::{
@@ -197,11 +201,42 @@ fn copy_associations(
 }
 
 #[cycle(copy)]
-fn copy_three(alloc: Global, z: &Expr, x: Expr, y: Expr) -> Result<(Expr, Expr, Expr), Starved>
-    ensures { IfOk result (λ c. (c.0 ≡ x) × (c.1 ≡ y) × (c.2 ≡ z.now)) }
+fn copy_one(alloc: Global, x: &Expr, form: One) -> Result<ExprNode<Expr>, Starved>
+    ensures { IfOk result (λ c. c ≡ one_node form x.now) }
+{
+    match copy_expression(alloc, x) {
+        Ok(x) => Ok(one_node(form, x)),
+        Err(error) => Err(error),
+    }
+}
+
+/// The latter operand is copied here, the former before.
+#[cycle(copy)]
+fn copy_two(alloc: Global, y: &Expr, form: Two, x: Expr) -> Result<ExprNode<Expr>, Starved>
+    ensures { IfOk result (λ c. c ≡ two_node form x y.now) }
+{
+    match copy_expression(alloc, y) {
+        Ok(y) => Ok(two_node(form, x, y)),
+        Err(error) => {
+            drop(x);
+            Err(error)
+        }
+    }
+}
+
+/// The last operand is copied here, the others before.
+#[cycle(copy)]
+fn copy_three(
+    alloc: Global,
+    z: &Expr,
+    form: Three,
+    x: Expr,
+    y: Expr,
+) -> Result<ExprNode<Expr>, Starved>
+    ensures { IfOk result (λ c. c ≡ three_node form x y z.now) }
 {
     match copy_expression(alloc, z) {
-        Ok(z) => Ok((x, y, z)),
+        Ok(z) => Ok(three_node(form, x, y, z)),
         Err(error) => {
             drop(x);
             drop(y);
@@ -211,86 +246,103 @@ fn copy_three(alloc: Global, z: &Expr, x: Expr, y: Expr) -> Result<(Expr, Expr, 
 }
 
 #[cycle(copy)]
+fn copy_item(alloc: Global, x: &Expr, index: Indexed<Expr>) -> Result<ExprNode<Expr>, Starved>
+    ensures { IfOk result (λ c. c ≡ node'.Item x.now index) }
+{
+    match copy_expression(alloc, x) {
+        Ok(x) => Ok(ExprNode::Item(x, index)),
+        Err(error) => {
+            drop(index);
+            Err(error)
+        }
+    }
+}
+
+#[cycle(copy)]
+fn copy_if(
+    alloc: Global,
+    arms: &Items<Arm<Expr>>,
+    otherwise: Expr,
+) -> Result<ExprNode<Expr>, Starved>
+    ensures { IfOk result (λ c. c ≡ node'.If arms.now otherwise) }
+{
+    match copy_arms(alloc, arms) {
+        Ok(arms) => Ok(ExprNode::If(arms, otherwise)),
+        Err(error) => {
+            drop(otherwise);
+            Err(error)
+        }
+    }
+}
+
+fn copy_static(alloc: Global, value: &Value) -> Result<ExprNode<Expr>, Starved>
+    ensures { IfOk result (λ c. c ≡ node'.Static value.now) }
+{
+    match value.copy(alloc) {
+        Ok(value) => Ok(ExprNode::Static(value)),
+        Err(error) => Err(error),
+    }
+}
+
+#[cycle(copy)]
 fn copy_node(alloc: Global, node: &ExprNode<Expr>) -> Result<ExprNode<Expr>, Starved>
     ensures { IfOk result (λ c. c ≡ node.now) }
 {
     match node {
-        ExprNode::Static(value) => Ok(ExprNode::Static(value.copy(alloc)?)),
+        ExprNode::Static(value) => copy_static(alloc, value),
         ExprNode::Read(place, object) => Ok(ExprNode::Read(*place, *object)),
         ExprNode::Old(place, object) => Ok(ExprNode::Old(*place, *object)),
-        ExprNode::LoopEntry(place, turn, object) => {
-            Ok(ExprNode::LoopEntry(*place, *turn, *object))
+        ExprNode::LoopEntry(place, turns, object) => {
+            Ok(ExprNode::LoopEntry(*place, *turns, *object))
         }
         ExprNode::Result(place) => Ok(ExprNode::Result(*place)),
-        ExprNode::First(x) => Ok(ExprNode::First(copy_expression(alloc, x)?)),
-        ExprNode::Last(x) => Ok(ExprNode::Last(copy_expression(alloc, x)?)),
-        ExprNode::Length(place, x) => Ok(ExprNode::Length(*place, copy_expression(alloc, x)?)),
-        ExprNode::Succ(place, x) => Ok(ExprNode::Succ(*place, copy_expression(alloc, x)?)),
-        ExprNode::Pred(place, x) => Ok(ExprNode::Pred(*place, copy_expression(alloc, x)?)),
-        ExprNode::Same(x) => Ok(ExprNode::Same(copy_expression(alloc, x)?)),
-        ExprNode::Not(x) => Ok(ExprNode::Not(copy_expression(alloc, x)?)),
-        ExprNode::Unary(place, op, x) => {
-            Ok(ExprNode::Unary(*place, *op, copy_expression(alloc, x)?))
-        }
+        ExprNode::First(x) => copy_one(alloc, x, One::First),
+        ExprNode::Last(x) => copy_one(alloc, x, One::Last),
+        ExprNode::Length(place, x) => copy_one(alloc, x, One::Length(*place)),
+        ExprNode::Succ(place, x) => copy_one(alloc, x, One::Succ(*place)),
+        ExprNode::Pred(place, x) => copy_one(alloc, x, One::Pred(*place)),
+        ExprNode::Same(x) => copy_one(alloc, x, One::Same),
+        ExprNode::Not(x) => copy_one(alloc, x, One::Not),
+        ExprNode::Unary(place, op, x) => copy_one(alloc, x, One::Unary(*place, *op)),
+        ExprNode::Convert(bounds, x) => copy_one(alloc, x, One::Convert(*bounds)),
+        ExprNode::Component(x, number) => copy_one(alloc, x, One::Component(*number)),
         ExprNode::Binary(place, op, x, y) => {
             let x = copy_expression(alloc, x)?;
-            let (x, y) = copy_beside(alloc, y, x)?;
-            Ok(ExprNode::Binary(*place, *op, x, y))
+            copy_two(alloc, y, Two::Binary(*place, *op), x)
         }
         ExprNode::Compare(relation, x, y) => {
             let x = copy_expression(alloc, x)?;
-            let (x, y) = copy_beside(alloc, y, x)?;
-            Ok(ExprNode::Compare(*relation, x, y))
+            copy_two(alloc, y, Two::Compare(*relation), x)
         }
         ExprNode::Connect(connective, x, y) => {
             let x = copy_expression(alloc, x)?;
-            let (x, y) = copy_beside(alloc, y, x)?;
-            Ok(ExprNode::Connect(*connective, x, y))
+            copy_two(alloc, y, Two::Connect(*connective), x)
         }
         ExprNode::Member(is, x, y, z) => {
             let x = copy_expression(alloc, x)?;
             let (x, y) = copy_beside(alloc, y, x)?;
-            let (x, y, z) = copy_three(alloc, z, x, y)?;
-            Ok(ExprNode::Member(*is, x, y, z))
-        }
-        ExprNode::Convert(bounds, x) => Ok(ExprNode::Convert(*bounds, copy_expression(alloc, x)?)),
-        ExprNode::Call(place, callee, arguments) => {
-            Ok(ExprNode::Call(*place, *callee, copy_arguments(alloc, arguments)?))
-        }
-        ExprNode::Item(x, index) => {
-            let index = copy_indexed(alloc, index)?;
-            let (value, x) = copy_beside(alloc, x, index.value)?;
-            Ok(ExprNode::Item(
-                x,
-                Indexed {
-                    checked: index.checked,
-                    value,
-                },
-            ))
-        }
-        ExprNode::Component(x, number) => {
-            Ok(ExprNode::Component(copy_expression(alloc, x)?, *number))
-        }
-        ExprNode::Aggregate(composite, bounds, associations) => Ok(ExprNode::Aggregate(
-            *composite,
-            *bounds,
-            copy_associations(alloc, associations)?,
-        )),
-        ExprNode::If(arms, otherwise) => {
-            let otherwise = copy_expression(alloc, otherwise)?;
-            match copy_arms(alloc, arms) {
-                Ok(arms) => Ok(ExprNode::If(arms, otherwise)),
-                Err(error) => {
-                    drop(otherwise);
-                    Err(error)
-                }
-            }
+            copy_three(alloc, z, Three::Member(*is), x, y)
         }
         ExprNode::Quantified(quantifier, index, x, y, z) => {
             let x = copy_expression(alloc, x)?;
             let (x, y) = copy_beside(alloc, y, x)?;
-            let (x, y, z) = copy_three(alloc, z, x, y)?;
-            Ok(ExprNode::Quantified(*quantifier, *index, x, y, z))
+            copy_three(alloc, z, Three::Quantified(*quantifier, *index), x, y)
+        }
+        ExprNode::Item(x, index) => {
+            let index = copy_indexed(alloc, index)?;
+            copy_item(alloc, x, index)
+        }
+        ExprNode::Call(place, callee, arguments) => {
+            let arguments = copy_arguments(alloc, arguments)?;
+            Ok(ExprNode::Call(*place, *callee, arguments))
+        }
+        ExprNode::Aggregate(composite, bounds, associations) => {
+            let associations = copy_associations(alloc, associations)?;
+            Ok(ExprNode::Aggregate(*composite, *bounds, associations))
+        }
+        ExprNode::If(arms, otherwise) => {
+            let otherwise = copy_expression(alloc, otherwise)?;
+            copy_if(alloc, arms, otherwise)
         }
     }
 }

@@ -3,7 +3,7 @@
 ghost use Rattle.std.specs.Prelude.{◌≡◌, ◌≤◌, IfOk, IfSome, Some, length};
 ghost use Rattle.std.specs.Option.{option_copied};
 ghost use Rattle.reading_scope.specs.Scopes.{scope_of};
-ghost use Rattle.typing_rules.specs.Lookups.{components_at, entity_by, entity_of, index_at, place_among, scalar_value, seen_as, type_of};
+ghost use Rattle.typing_rules.specs.Lookups.{components_at, entity_by, entity_of, declared_at, place_among, scalar_value, seen_as, type_of};
 ghost use Rattle.typing_rules.specs.Values.{component_subtype, formals_of};
 
 use ada_values::{Place, Value};
@@ -13,23 +13,19 @@ use reading_scope::Scope;
 use sqlite_items::at;
 use std::alloc::Global;
 use type_base::{
-    Access, BOOLEAN, Component, Entity, Form, Formal, Index, Routine, Seen, Starved, World, made,
+    Access, BOOLEAN, Component, Entity, Form, Formal, Parameter, Routine, Seen, Starved, World, made,
 };
 use typed_units::{Expr, ExprNode, Object};
 
-/// What the declaring identifier at a place stands for, first among these indexes.
-fn index_at(world: &World, mut indexes: &[Index], spot: Spot) -> Entity
-    ensures { result ≡ index_at world.now indexes.entry.now spot }
+/// What the declaring identifier at a place stands for, first among these parameters and indexes.
+fn declared_at(world: &World, mut parameters: &[Parameter], spot: Spot) -> Entity
+    ensures { result ≡ declared_at world.now parameters.entry.now spot }
 {
-    while let [first, rest @ ..] = indexes {
+    while let [first, rest @ ..] = parameters {
         if first.spot.file == spot.file && first.spot.at == spot.at {
-            return Entity::Object(
-                first.subtype,
-                Object::Index(first.number),
-                Access::LoopParameter,
-            );
+            return Entity::Object(first.subtype, first.object, Access::LoopParameter);
         }
-        indexes = rest;
+        parameters = rest;
     }
     world.linked(Link::Declared(spot))
 }
@@ -39,7 +35,7 @@ pub fn entity_by(scope: &Scope, link: Option<Link>) -> Entity
     ensures { result ≡ entity_by (scope_of scope.now) link }
 {
     match link {
-        Some(Link::Declared(spot)) => index_at(scope.world(), scope.indexes, spot),
+        Some(Link::Declared(spot)) => declared_at(scope.world(), scope.parameters, spot),
         Some(Link::Predefined(number)) => scope.world().linked(Link::Predefined(number)),
         None => Entity::Unknown,
     }

@@ -60,3 +60,15 @@ decreases-copy_associations l = 16 * goal.size-copy_associations l + 2
 
 abbrev pub decreases-copy_node : goal.decreases-copy_node
 decreases-copy_node l = 16 * goal.size-copy_node l + 8
+
+abbrev pub decreases-copy_one : goal.decreases-copy_one
+decreases-copy_one l = 16 * goal.size-copy_one l + 1
+
+abbrev pub decreases-copy_two : goal.decreases-copy_two
+decreases-copy_two l = 16 * goal.size-copy_two l + 1
+
+abbrev pub decreases-copy_item : goal.decreases-copy_item
+decreases-copy_item l = 16 * goal.size-copy_item l + 1
+
+abbrev pub decreases-copy_if : goal.decreases-copy_if
+decreases-copy_if l = 16 * goal.size-copy_if l + 4
