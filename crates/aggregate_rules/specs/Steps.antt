@@ -1,5 +1,5 @@
 -- The steps of an aggregate, over what is seen of the values in it.
-use Rattle.std.specs.Prelude.{ℕ, pos, Bool, true, false, List, [], length, ◌==◌, if◌then◌else◌, Option}
+use Rattle.std.specs.Prelude.{ℕ, pos, Bool, true, false, List, [], length, ◌==◌, if◌then◌else◌, Option, Some, None}
 use Rattle.ada_values.specs.declared.place.Place.{Place}
 use Rattle.front_codes.specs.declared.codes.Code.TheVariants as code
 use Rattle.syntax_view.specs.Trees as tree
@@ -17,11 +17,22 @@ use Rattle.typing_rules.specs.declared.aggregates.Gathered.{Gathered}
 use Rattle.typing_rules.specs.declared.aggregates.Gives.{Gives}
 use Rattle.typing_rules.specs.declared.prefix.Found.{Found}
 use Rattle.typing_rules.specs.Aggregates.{added_item, added_range, choice_done, component_by, given_all, item_value, last_number, ranges_in}
+use Rattle.typing_rules.specs.Calls.{still_open}
 use Rattle.typing_rules.specs.Fits.{fit, found_then, seen_then, spoiled, with_found}
-use Rattle.typing_rules.specs.Lookups.{seen_as}
+use Rattle.typing_rules.specs.Lookups.{place_among, seen_as}
+use Rattle.typing_rules.specs.Parts.{Operand}
 use Rattle.typing_rules.specs.Reading.{arg}
 
 -- ---- records
+
+-- the first byte of an identifier alone
+abbrev pub lone_in : Operand → Option ℕ
+lone_in o = if o.alone then Some o.from else None
+
+-- the component of a name, which isn't given yet
+abbrev pub component_named : Scope → List Component → List ℕ → Option ℕ → Option ℕ
+component_named c cs given (Some at) = still_open given (place_among cs (c.name at) 0)
+component_named c cs given None = None
 
 -- what an association gives, which is the last one or isn't
 abbrev pub association_gives : Scope → List Component → List ℕ → Bool → tree.Arg → Bool → Option Gives

@@ -7,9 +7,9 @@ ghost use Rattle.reading_scope.specs.Scopes.{scope_of};
 ghost use Rattle.typing_rules.specs.Aggregates.{misplaced, position_range, some_values, stopped};
 ghost use Rattle.typing_rules.specs.Reading.{arg};
 
-use crate::found::spoiled;
 use ada_syntax::{Arg, Expr as Tree};
 use ada_values::Place;
+use name_values::{added, seen_as, spoiled};
 use reading_scope::Scope;
 use sqlite_items::Items;
 use std::alloc::{AllocError, Global};
