@@ -1,10 +1,12 @@
 -- The steps of an aggregate, over what is seen of the values in it.
 use Rattle.std.specs.Prelude.{ℕ, pos, Bool, true, false, List, [], length, ◌==◌, if◌then◌else◌, Option, Some, None}
 use Rattle.ada_values.specs.declared.place.Place.{Place}
+use Rattle.ada_values.specs.declared.values.Value.TheVariants as value
 use Rattle.front_codes.specs.declared.codes.Code.TheVariants as code
 use Rattle.syntax_view.specs.Trees as tree
 use Rattle.typed_units.specs.declared.expressions.Association.{Association}
 use Rattle.typed_units.specs.declared.expressions.Expr.{Expr}
+use Rattle.typed_units.specs.declared.expressions.ExprNode.{ExprNode}
 use Rattle.typed_units.specs.declared.expressions.ExprNode.TheVariants as node
 use Rattle.typed_units.specs.declared.operators.Bounds.{Bounds}
 use Rattle.typed_units.specs.declared.operators.Composite.TheVariants as composite
@@ -55,11 +57,25 @@ record_made c p k cs done = seen_then done (λ xs. seen_as c p k (node.Aggregate
 abbrev pub item_given : Scope → ℕ → List Bounds → Bool → Place → Seen → Found (Association Expr)
 item_given c k rs o q s = with_found (item_value rs o) (fit c.world code.L8 true k q s)
 
+abbrev pub gathered_with : Gathered → Found Bounds → Found (Association Expr) → Gathered
+gathered_with g r v = record { ranges = added_range g.ranges r; done = added_item g.done (choice_done r v) }
+
 abbrev pub item_gathered : Scope → ℕ → Gathered → Found Bounds → Place → Seen → Gathered
-item_gathered c k g r q s = record { ranges = added_range g.ranges r; done = added_item g.done (choice_done r (item_given c k (ranges_in r) false q s)) }
+item_gathered c k g r q s = gathered_with g r (item_given c k (ranges_in r) false q s)
+
+abbrev pub rest_with : Gathered → Found (Association Expr) → ArrayItems
+rest_with g v = record { gathered = record { ranges = g.ranges; done = added_item g.done v }; partial = true }
 
 abbrev pub rest_gathered : Scope → ℕ → Gathered → Place → Seen → ArrayItems
-rest_gathered c k g q s = record { gathered = record { ranges = g.ranges; done = added_item g.done (item_given c k [] true q s) }; partial = true }
+rest_gathered c k g q s = rest_with g (item_given c k [] true q s)
 
 abbrev pub array_made : Scope → Place → ℕ → Bounds → Found (List (Association Expr)) → Seen
 array_made c p k b done = seen_then done (λ xs. seen_as c p k (node.Aggregate composite.Array b xs))
+
+-- ---- qualified expressions
+
+-- an operand that needs no check: a static number or truth value stays as it is
+abbrev pub unchecked : Expr → ExprNode Expr → ExprNode Expr
+unchecked x (node.Static (value.Int n)) = node.Static (value.Int n)
+unchecked x (node.Static (value.Bool b)) = node.Static (value.Bool b)
+unchecked x _ = node.Convert None x

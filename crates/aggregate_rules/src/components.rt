@@ -1,15 +1,16 @@
 //! Which components an association gives (Ada RM 4.3.1).
 
 ghost use Rattle.std.specs.Prelude.{◌≡◌, ◌≤◌, IfOk, length};
-ghost use Rattle.syntax_view.specs.View.{arg_of, expr, item_of};
+ghost use Rattle.syntax_view.specs.View.{arg_of, expr, item_of, name_of};
 ghost use Rattle.aggregate_rules.specs.Steps.{association_gives, component_named, lone_in};
 ghost use Rattle.reading_scope.specs.Scopes.{scope_of};
 ghost use Rattle.type_base.specs.Scope.{Scope as Context};
 ghost use Rattle.typing_rules.specs.Aggregates.{not_given, one_given, position_open, rest_given};
 ghost use Rattle.typing_rules.specs.Calls.{is_among, still_open};
-ghost use Rattle.typing_rules.specs.Reading.{item, read};
+ghost use Rattle.typing_rules.specs.Forms.{is_identifier};
+ghost use Rattle.typing_rules.specs.Reading.{item, name_form, read};
 
-use ada_syntax::{Arg, ArgChoice, Expr, ExprNode, Item, ItemForm};
+use ada_syntax::{Arg, ArgChoice, Expr, ExprNode, Item, ItemForm, Name};
 use name_values::place_among;
 use reading_scope::Scope;
 use sqlite_items::Items;
@@ -17,17 +18,35 @@ use std::alloc::Global;
 use type_base::{Component, Starved};
 use typing_rules::Gives;
 
+/// Whether nothing follows the first identifier of a name.
+fn is_lone(name: &Name<Expr>) -> bool
+    ensures { (c : Context) → result ≡ is_identifier (name_form c (name_of expr name.now)) }
+{
+    match name.suffixes.as_slice() {
+        [] => true,
+        [_, ..] => false,
+    }
+}
+
 /// The first byte of an expression that is an identifier alone.
 #[tactic(auto, using(syntax_view::proofs::Forms::expr_has))]
 fn lone_identifier(x: &Expr) -> Option<u32>
     ensures { (c : Context) → result ≡ lone_in (read c (expr x.now)) }
 {
     match x.node.get() {
-        ExprNode::Name(name) => match name.suffixes.as_slice() {
-            [] => Some(x.span.from),
-            [_, ..] => None,
-        },
-        _ => None,
+        ExprNode::Name(name) => {
+            if is_lone(name) {
+                Some(x.span.from)
+            } else {
+                None
+            }
+        }
+        ExprNode::Number(_)
+        | ExprNode::Null
+        | ExprNode::Group(_)
+        | ExprNode::Unary(_, _, _)
+        | ExprNode::Binary(_, _, _, _)
+        | ExprNode::Member(_, _, _, _) => None,
     }
 }
 
@@ -115,18 +134,20 @@ fn one_given(alloc: Global, number: Option<u32>) -> Result<Option<Gives>, Starve
 /// The numbers of the components that aren't given.
 fn not_given(
     alloc: Global,
-    components: &[Component],
+    mut components: &[Component],
     given: &[u32],
 ) -> Result<Items<u32>, Starved>
     requires { length components.now ≤ 4294967295 }
-    ensures { IfOk result (λ ns. ns ≡ not_given given.now components.now 0) }
+    ensures { IfOk result (λ ns. ns ≡ not_given given.now components.entry.now 0) }
 {
     let mut numbers = Items::new(alloc);
-    for at in 0..components.len() {
-        let number = at as u32;
+    let mut number = 0;
+    while let [_, rest @ ..] = components {
         if !is_among(number, given) {
             numbers.push(number)?;
         }
+        components = rest;
+        number += 1;
     }
     Ok(numbers)
 }
@@ -167,7 +188,11 @@ pub fn components_for(
     match &association.choice {
         ArgChoice::Item(item) => match &association.value {
             None => {
-                let next = if named { None } else { position_open(components, given) };
+                let next = if named {
+                    None
+                } else {
+                    position_open(components, given)
+                };
                 one_given(alloc, next)
             }
             Some(_) => one_given(alloc, component_named(scope, components, given, item)),
