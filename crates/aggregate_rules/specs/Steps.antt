@@ -1,10 +1,12 @@
 -- The steps of an aggregate, over what is seen of the values in it.
-use Rattle.std.specs.Prelude.{ℕ, pos, Bool, true, false, List, [], length, ◌==◌, if◌then◌else◌, Option}
+use Rattle.std.specs.Prelude.{ℕ, pos, Bool, true, false, List, [], length, ◌==◌, if◌then◌else◌, Option, Some, None}
 use Rattle.ada_values.specs.declared.place.Place.{Place}
+use Rattle.ada_values.specs.declared.values.Value.TheVariants as value
 use Rattle.front_codes.specs.declared.codes.Code.TheVariants as code
 use Rattle.syntax_view.specs.Trees as tree
 use Rattle.typed_units.specs.declared.expressions.Association.{Association}
 use Rattle.typed_units.specs.declared.expressions.Expr.{Expr}
+use Rattle.typed_units.specs.declared.expressions.ExprNode.{ExprNode}
 use Rattle.typed_units.specs.declared.expressions.ExprNode.TheVariants as node
 use Rattle.typed_units.specs.declared.operators.Bounds.{Bounds}
 use Rattle.typed_units.specs.declared.operators.Composite.TheVariants as composite
@@ -17,11 +19,22 @@ use Rattle.typing_rules.specs.declared.aggregates.Gathered.{Gathered}
 use Rattle.typing_rules.specs.declared.aggregates.Gives.{Gives}
 use Rattle.typing_rules.specs.declared.prefix.Found.{Found}
 use Rattle.typing_rules.specs.Aggregates.{added_item, added_range, choice_done, component_by, given_all, item_value, last_number, ranges_in}
+use Rattle.typing_rules.specs.Calls.{still_open}
 use Rattle.typing_rules.specs.Fits.{fit, found_then, seen_then, spoiled, with_found}
-use Rattle.typing_rules.specs.Lookups.{seen_as}
+use Rattle.typing_rules.specs.Lookups.{place_among, seen_as}
+use Rattle.typing_rules.specs.Parts.{Operand}
 use Rattle.typing_rules.specs.Reading.{arg}
 
 -- ---- records
+
+-- the first byte of an identifier alone
+abbrev pub lone_in : Operand → Option ℕ
+lone_in o = if o.alone then Some o.from else None
+
+-- the component of a name, which isn't given yet
+abbrev pub component_named : Scope → List Component → List ℕ → Option ℕ → Option ℕ
+component_named c cs given (Some at) = still_open given (place_among cs (c.name at) 0)
+component_named c cs given None = None
 
 -- what an association gives, which is the last one or isn't
 abbrev pub association_gives : Scope → List Component → List ℕ → Bool → tree.Arg → Bool → Option Gives
@@ -44,11 +57,25 @@ record_made c p k cs done = seen_then done (λ xs. seen_as c p k (node.Aggregate
 abbrev pub item_given : Scope → ℕ → List Bounds → Bool → Place → Seen → Found (Association Expr)
 item_given c k rs o q s = with_found (item_value rs o) (fit c.world code.L8 true k q s)
 
+abbrev pub gathered_with : Gathered → Found Bounds → Found (Association Expr) → Gathered
+gathered_with g r v = record { ranges = added_range g.ranges r; done = added_item g.done (choice_done r v) }
+
 abbrev pub item_gathered : Scope → ℕ → Gathered → Found Bounds → Place → Seen → Gathered
-item_gathered c k g r q s = record { ranges = added_range g.ranges r; done = added_item g.done (choice_done r (item_given c k (ranges_in r) false q s)) }
+item_gathered c k g r q s = gathered_with g r (item_given c k (ranges_in r) false q s)
+
+abbrev pub rest_with : Gathered → Found (Association Expr) → ArrayItems
+rest_with g v = record { gathered = record { ranges = g.ranges; done = added_item g.done v }; partial = true }
 
 abbrev pub rest_gathered : Scope → ℕ → Gathered → Place → Seen → ArrayItems
-rest_gathered c k g q s = record { gathered = record { ranges = g.ranges; done = added_item g.done (item_given c k [] true q s) }; partial = true }
+rest_gathered c k g q s = rest_with g (item_given c k [] true q s)
 
 abbrev pub array_made : Scope → Place → ℕ → Bounds → Found (List (Association Expr)) → Seen
 array_made c p k b done = seen_then done (λ xs. seen_as c p k (node.Aggregate composite.Array b xs))
+
+-- ---- qualified expressions
+
+-- an operand that needs no check: a static number or truth value stays as it is
+abbrev pub unchecked : Expr → ExprNode Expr → ExprNode Expr
+unchecked x (node.Static (value.Int n)) = node.Static (value.Int n)
+unchecked x (node.Static (value.Bool b)) = node.Static (value.Bool b)
+unchecked x _ = node.Convert None x

@@ -1,47 +1,20 @@
 //! Aggregates of records (Ada RM 4.3.1).
 
-ghost use Rattle.std.specs.Prelude.{◌≡◌, IfOk, Some};
-ghost use Rattle.syntax_view.specs.View.{arg_of, expr};
-ghost use Rattle.aggregate_rules.specs.Steps.{association_gives, record_ended, record_made, value_given};
+ghost use Rattle.std.specs.Prelude.{◌≡◌, IfOk, map, ◌++◌};
+ghost use Rattle.aggregate_rules.specs.Steps.{record_ended, record_made, value_given};
 ghost use Rattle.reading_scope.specs.Scopes.{scope_of};
-ghost use Rattle.typing_rules.specs.Aggregates.{first_given};
-ghost use Rattle.typing_rules.specs.Values.{component_subtype};
+ghost use Rattle.typing_rules.specs.Aggregates.{all_take, check_list, checks_of, first_given, given_all, gives_value, lone_range, ranges_of};
+ghost use Rattle.typing_rules.specs.Calls.{same_type};
 
-use crate::found::spoiled;
-use ada_syntax::{Arg, Expr as Tree};
 use ada_values::Place;
+use name_values::{component_subtype, seen_as, spoiled};
 use reading_scope::Scope;
 use sqlite_items::Items;
-use std::alloc::{AllocError, Global};
-use type_base::{Code, Component, Refusal, Seen, Starved};
-use typed_units::{Association, Expr};
+use std::alloc::Global;
+use type_base::{Code, Component, Refusal, Seen, Starved, World};
+use typed_units::{Association, Bounds, Composite, Expr, ExprNode, Fitted};
 use typing_rules::{Found, Gives};
-
-/// What an association of a record gives, after others that gave these components, the newest first, of which some may be
-/// `named`: the next component where it is positional, that of its name, or with `others` all that are left, where it is the
-/// `last` association. None where it gives nothing, by L16.
-pub fn components_for(
-    alloc: Global,
-    scope: &Scope,
-    components: &[Component],
-    given: &[u32],
-    named: bool,
-    association: &Arg<Tree>,
-    last: bool,
-) -> Result<Option<Gives>, Starved>
-    ensures { IfOk result (λ g. g ≡ association_gives (scope_of scope.now) components.now given.now named (arg_of expr association.now) last) }
-{
-    Err(AllocError)
-}
-
-fn component_subtype(components: &[Component], number: u32) -> u32
-    ensures { result ≡ component_subtype (Some components.now) number }
-{
-    match components.get(number as usize) {
-        Some(component) => component.subtype,
-        None => 0,
-    }
-}
+use value_rules::{fit, takes};
 
 /// The number of the subtype of the first of these components, 0 where there is none.
 pub fn first_given(components: &[Component], numbers: &[u32]) -> u32
@@ -50,6 +23,135 @@ pub fn first_given(components: &[Component], numbers: &[u32]) -> u32
     match numbers {
         [first, ..] => component_subtype(components, *first),
         [] => 0,
+    }
+}
+
+fn same_type(left: Option<u32>, right: Option<u32>) -> bool
+    ensures { result ≡ same_type left right }
+{
+    match left {
+        Some(left) => match right {
+            Some(right) => left == right,
+            None => false,
+        },
+        None => false,
+    }
+}
+
+/// Whether each of the components has the type of a value of this subtype, and takes its bounds.
+fn all_take(world: &World, components: &[Component], value: u32, mut numbers: &[u32]) -> bool
+    ensures { result ≡ all_take world.now components.now value numbers.entry.now }
+{
+    while let [first, rest @ ..] = numbers {
+        let subtype = component_subtype(components, *first);
+        if !(same_type(world.type_of(value), world.type_of(subtype))
+            && takes(world, true, subtype, value))
+        {
+            return false;
+        }
+        numbers = rest;
+    }
+    true
+}
+
+/// The bounds of the range checks of a value for components.
+fn checks_of(
+    alloc: Global,
+    world: &World,
+    components: &[Component],
+    x: &Expr,
+    numbers: &[u32],
+) -> Result<Items<Bounds>, Starved>
+    ensures { IfOk result (λ bs. bs ≡ checks_of world.now components.now x.now numbers.now) }
+{
+    let mut checks = Items::new(alloc);
+    for number in numbers {
+        let subtype = component_subtype(components, *number);
+        if let Some(bounds) = world.check_of(subtype, x) {
+            checks.push(bounds)?;
+        }
+    }
+    Ok(checks)
+}
+
+/// The ranges of an association of these components: one for each number.
+fn lone_ranges(alloc: Global, numbers: &[u32]) -> Result<Items<Bounds>, Starved>
+    ensures { IfOk result (λ bs. bs ≡ map lone_range numbers.now) }
+{
+    let mut ranges = Items::new(alloc);
+    for number in numbers {
+        let number = i128::from(*number);
+        ranges.push(Bounds {
+            first: number,
+            last: number,
+        })?;
+    }
+    Ok(ranges)
+}
+
+fn ranges_of(alloc: Global, gives: &Gives) -> Result<Items<Bounds>, Starved>
+    ensures { IfOk result (λ bs. bs ≡ ranges_of gives.now) }
+{
+    if gives.by_others {
+        Ok(Items::new(alloc))
+    } else {
+        lone_ranges(alloc, gives.numbers.as_slice())
+    }
+}
+
+fn gives_value(
+    alloc: Global,
+    world: &World,
+    components: &[Component],
+    gives: &Gives,
+    fitted: Fitted<Expr>,
+) -> Result<Association<Expr>, Starved>
+    ensures { IfOk result (λ a. a ≡ gives_value world.now components.now gives.now fitted) }
+{
+    let Fitted { bounds: _, value } = fitted;
+    let checks = match checks_of(alloc, world, components, &value, gives.numbers.as_slice()) {
+        Ok(checks) => checks,
+        Err(error) => {
+            drop(value);
+            return Err(error);
+        }
+    };
+    match ranges_of(alloc, gives) {
+        Ok(ranges) => Ok(Association {
+            ranges,
+            others: gives.by_others,
+            checks,
+            value,
+        }),
+        Err(error) => {
+            drop(value);
+            Err(error)
+        }
+    }
+}
+
+fn given_all(
+    alloc: Global,
+    world: &World,
+    components: &[Component],
+    gives: &Gives,
+    place: Place,
+    subtype: u32,
+    fitted: Fitted<Expr>,
+) -> Result<Found<Association<Expr>>, Starved>
+    ensures { IfOk result (λ v. v ≡ given_all world.now components.now gives.now place subtype fitted) }
+{
+    if all_take(world, components, subtype, gives.numbers.as_slice()) {
+        match gives_value(alloc, world, components, gives, fitted) {
+            Ok(value) => Ok(Found::Is(value)),
+            Err(error) => Err(error),
+        }
+    } else {
+        drop(fitted);
+        Ok(Found::Refused(Refusal {
+            code: Code::L8,
+            place,
+        }))
     }
 }
 
@@ -66,7 +168,15 @@ pub fn value_given(
 ) -> Result<Found<Association<Expr>>, Starved>
     ensures { IfOk result (λ v. v ≡ value_given (scope_of scope.now) components.now gives.now subtype place seen) }
 {
-    Err(AllocError)
+    let world = scope.world();
+    match fit(alloc, world, Code::L8, true, subtype, place, seen) {
+        Ok(Found::Refused(refusal)) => Ok(Found::Refused(refusal)),
+        Ok(Found::Unknown) => Ok(Found::Unknown),
+        Ok(Found::Is(fitted)) => {
+            given_all(alloc, world, components, gives, place, subtype, fitted)
+        }
+        Err(error) => Err(error),
+    }
 }
 
 /// What is done after all associations of an aggregate at a place: L16 is broken there where not all components are given.
@@ -81,13 +191,11 @@ pub fn record_ended(
     if given.len() == components.len() {
         done
     } else {
-        spoiled(
-            done,
-            Refusal {
-                code: Code::L16,
-                place,
-            },
-        )
+        let refusal = Refusal {
+            code: Code::L16,
+            place,
+        };
+        spoiled(done, refusal)
     }
 }
 
@@ -102,5 +210,16 @@ pub fn record_made(
 ) -> Result<Seen, Starved>
     ensures { IfOk result (λ s. s ≡ record_made (scope_of scope.now) place subtype components.now done) }
 {
-    Err(AllocError)
+    match done {
+        Found::Refused(refusal) => Ok(Seen::Refused(refusal)),
+        Found::Unknown => Ok(Seen::Unknown),
+        Found::Is(values) => {
+            let bounds = Bounds {
+                first: 0,
+                last: components.len() as i128 - 1,
+            };
+            let node = ExprNode::Aggregate(Composite::Record, bounds, values);
+            seen_as(alloc, scope, place, subtype, node)
+        }
+    }
 }

@@ -32,7 +32,7 @@ times-placed b (c ∷ cs) v =
     let e : times (c ∷ placed b cs) v ≡ times (b ∷ c ∷ cs) v = omega (arith, i, k, l, m, n) in
     ap (λ (x : Bool). times (cond x (b ∷ c ∷ cs) (c ∷ placed b cs)) v) h ∙ e)
 
-times-by_first : (bs : List Bounds) (v : ℤ) → times (by_first bs) v ≡ times bs v
+pub times-by_first : (bs : List Bounds) (v : ℤ) → times (by_first bs) v ≡ times bs v
 times-by_first [] v = refl
 times-by_first (b ∷ bs) v =
     by_cases (holds_any b)
@@ -61,7 +61,7 @@ all_lined_placed b (c ∷ cs) h l =
     (λ e. subst (λ (x : Bool). AllLined (cond x (b ∷ c ∷ cs) (c ∷ placed b cs))) (sym e) (h, (e, l.0, l.1)))
     (λ e. subst (λ (x : Bool). AllLined (cond x (b ∷ c ∷ cs) (c ∷ placed b cs))) (sym e) (l.0, lined_placed c.first b cs (less_or_more b.first c.first e) h l.1))
 
-lined-by_first : (bs : List Bounds) → AllLined (by_first bs)
+pub lined-by_first : (bs : List Bounds) → AllLined (by_first bs)
 lined-by_first [] = tt
 lined-by_first (b ∷ bs) =
     by_cases (holds_any b)
@@ -178,7 +178,7 @@ twice_next lo hi bs b cs a f m =
       twice = subst (λ (xs : List Bounds). 0 < times xs s.value) e s.more;
     }
 
-one_more : (lo hi : ℤ) (bs : List Bounds) (b : Bounds) → AtMostOnce lo hi bs → fits_in lo hi b ≡ true → meets_any b bs ≡ false → AtMostOnce lo hi (bs ++ b ∷ [])
+pub one_more : (lo hi : ℤ) (bs : List Bounds) (b : Bounds) → AtMostOnce lo hi bs → fits_in lo hi b ≡ true → meets_any b bs ≡ false → AtMostOnce lo hi (bs ++ b ∷ [])
 one_more lo hi bs b a f m v =
     let p : times (bs ++ b ∷ []) v ≡ times bs v + one (holds v b) = sum_by_push (λ (x : Bounds). one (holds v x)) bs b in
     by_cases (holds v b)
@@ -216,7 +216,7 @@ covers_after bs lo hi (b ∷ cs) a =
     (subst (λ (xs : List Bounds). IsCover xs lo hi next) (appended bs b cs)
     (covers_after (bs ++ b ∷ []) lo hi cs (one_more lo hi bs b a (not_true (fits_in lo hi b) f) m))))))
 
-nothing_once : (lo hi : ℤ) → AtMostOnce lo hi []
+pub nothing_once : (lo hi : ℤ) → AtMostOnce lo hi []
 nothing_once lo hi v = omega arith
 
 pub covers : (ranges : List Bounds) (lo hi : ℤ) → IsCover ranges lo hi (covering ranges lo hi)

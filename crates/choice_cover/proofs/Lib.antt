@@ -4,3 +4,4 @@ pub mod Filled
 pub mod Function
 pub mod Held
 pub mod Only
+pub mod Sized

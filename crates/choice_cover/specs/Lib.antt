@@ -1,3 +1,4 @@
 pub mod Cover
 pub mod Sweeps
 pub mod Covering
+pub mod Sizes
