@@ -39,10 +39,7 @@ fn with_unknown<A: Drop, B>(found: Found<A>) -> Found<B>
     }
 }
 
-fn with_found<T: Drop>(
-    mut items: Items<T>,
-    found: Found<T>,
-) -> Result<Found<Items<T>>, Starved>
+fn with_found<T: Drop>(mut items: Items<T>, found: Found<T>) -> Result<Found<Items<T>>, Starved>
     ensures { IfOk result (λ f. f ≡ with_found (λ x. items ++ (x ∷ [])) found) }
 {
     match found {
@@ -65,10 +62,7 @@ fn with_found<T: Drop>(
 }
 
 /// What is found of several parts, with one more. `Err` where memory was refused.
-pub fn added<T: Drop>(
-    done: Found<Items<T>>,
-    more: Found<T>,
-) -> Result<Found<Items<T>>, Starved>
+pub fn added<T: Drop>(done: Found<Items<T>>, more: Found<T>) -> Result<Found<Items<T>>, Starved>
     ensures { IfOk result (λ f. f ≡ both (λ xs x. xs ++ (x ∷ [])) done more) }
 {
     match done {

@@ -13,9 +13,10 @@ use reading_scope::Scope;
 use sqlite_items::at;
 use std::alloc::Global;
 use type_base::{
-    Access, BOOLEAN, Component, Entity, Form, Formal, Parameter, Routine, Seen, Starved, World, made,
+    Access, BOOLEAN, Component, Entity, Form, Formal, Parameter, Routine, Seen, Starved, World,
+    made,
 };
-use typed_units::{Expr, ExprNode, Object};
+use typed_units::{Expr, ExprNode};
 
 /// What the declaring identifier at a place stands for, first among these parameters and indexes.
 fn declared_at(world: &World, mut parameters: &[Parameter], spot: Spot) -> Entity

@@ -72,12 +72,7 @@ fn typed_part(alloc: Global, world: &World, part: Part) -> Result<Seen, Starved>
 
 /// The value that a name at a place is. A package, a subtype and a procedure are none (L12), nor is a range (L19) or an
 /// attribute without its argument (L10). `Err` where memory was refused.
-pub fn value_of(
-    alloc: Global,
-    scope: &Scope,
-    place: Place,
-    prefix: Prefix,
-) -> Result<Seen, Starved>
+pub fn value_of(alloc: Global, scope: &Scope, place: Place, prefix: Prefix) -> Result<Seen, Starved>
     ensures { IfOk result (λ s. s ≡ value_of (scope_of scope.now) place prefix) }
 {
     match prefix {
