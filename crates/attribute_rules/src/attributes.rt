@@ -2,7 +2,7 @@
 
 ghost use Rattle.std.specs.Prelude.{◌≡◌, IfOk};
 ghost use Rattle.reading_scope.specs.Scopes.{scope_of};
-ghost use Rattle.typing_rules.specs.Attributes.{attribute_by, attributed, bounded, length_at};
+ghost use Rattle.typing_rules.specs.Attributes.{attribute_by, attributed, bounded, left_out, length_at};
 
 use crate::arrays::bounded;
 use crate::bounds::{bound, length_at};
@@ -10,9 +10,10 @@ use crate::earlier::{entry_at, old_at, result_of};
 use crate::mappings::mapping_of;
 use ada_values::Place;
 use name_numbers::Word;
+use name_values::{prefix_fault, refused_beside};
 use reading_scope::Scope;
 use std::alloc::Global;
-use type_base::{Code, Seen, Starved, Want, refused};
+use type_base::{Code, Refusal, Seen, Starved, Want, refused};
 use typing_rules::{Mapping, Prefix};
 
 fn length_of(
@@ -28,6 +29,22 @@ fn length_of(
     match bounded(alloc, scope, place, prefix) {
         Ok(array) => length_at(alloc, scope, want, place, tick, array),
         Err(error) => Err(error),
+    }
+}
+
+/// An attribute that the profile leaves out, beside what is refused in its prefix.
+fn left_out(place: Place, fault: Option<Refusal>) -> Prefix
+    ensures { result ≡ left_out place fault }
+{
+    match fault {
+        Some(before) => {
+            let refusal = Refusal {
+                code: Code::LeftOut,
+                place,
+            };
+            Prefix::Value(refused_beside(refusal, Seen::Refused(before)))
+        }
+        None => Prefix::Value(refused(Code::LeftOut, place)),
     }
 }
 
@@ -57,8 +74,9 @@ fn attribute_by(
         Some(Word::LoopEntry) => Ok(Prefix::Value(entry_at(alloc, scope, place, prefix)?)),
         Some(Word::Result) => Ok(Prefix::Value(result_of(alloc, scope, place, prefix)?)),
         _ => {
+            let fault = prefix_fault(&prefix);
             drop(prefix);
-            Ok(Prefix::Value(refused(Code::LeftOut, place)))
+            Ok(left_out(place, fault))
         }
     }
 }

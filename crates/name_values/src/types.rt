@@ -38,8 +38,8 @@ pub fn typed_as(
     }
 }
 
-/// An expression at a place that by a rule is of the type of a subtype; a number takes that type. `Unknown` where the world
-/// doesn't have the subtype. `Err` where memory was refused.
+/// An expression at a place that by a rule is of the type of a subtype; a number takes that type. Where the world
+/// doesn't have the subtype it is `Unknown`, but for what is refused in it. `Err` where memory was refused.
 pub fn of_type(
     alloc: Global,
     scope: &Scope,
@@ -52,9 +52,13 @@ pub fn of_type(
 {
     match scope.world().type_of(subtype) {
         Some(ty) => typed_as(alloc, scope, code, ty, place, seen),
-        None => {
-            drop(seen);
-            Ok(Seen::Unknown)
-        }
+        None => match seen {
+            Seen::Refused(refusal) => Ok(Seen::Refused(refusal)),
+            Seen::Unknown | Seen::Number(_) => Ok(Seen::Unknown),
+            Seen::Typed(_, x) => {
+                drop(x);
+                Ok(Seen::Unknown)
+            }
+        },
     }
 }

@@ -4,6 +4,7 @@ use Rattle.ada_values.specs.Scalars.{in_base}
 use Rattle.ada_values.specs.declared.place.Place.{Place}
 use Rattle.ada_values.specs.declared.values.Value.TheVariants as value
 use Rattle.front_codes.specs.declared.codes.Code.TheVariants as code
+use Rattle.front_codes.specs.declared.codes.Refusal.{Refusal}
 use Rattle.name_numbers.specs.Numbers.{word_of}
 use Rattle.name_numbers.specs.declared.words.Word.{Word}
 use Rattle.name_numbers.specs.declared.words.Word.TheVariants as word
@@ -28,7 +29,7 @@ use Rattle.type_base.specs.declared.world.Form.{Form}
 use Rattle.type_base.specs.declared.world.Form.TheVariants as form
 use Rattle.type_base.specs.declared.world.Routine.{Routine}
 use Rattle.type_base.specs.declared.world.World.{World}
-use Rattle.type_base.specs.Demands.{bounds_at, check_in, is_integer, known, made, refused, subtype_of, wanted_integer}
+use Rattle.type_base.specs.Demands.{bounds_at, broken, check_in, is_integer, known, made, refused, subtype_of, wanted_integer}
 use Rattle.type_base.specs.Lookups.{form_at, routine_at}
 use Rattle.type_base.specs.Results.{number_in, universal}
 use Rattle.type_base.specs.Standard.{integer_base}
@@ -37,10 +38,11 @@ use Rattle.typing_rules.specs.declared.prefix.Mapping.TheVariants as mapping
 use Rattle.typing_rules.specs.declared.prefix.Part.{Part}
 use Rattle.typing_rules.specs.declared.prefix.Prefix.{Prefix}
 use Rattle.typing_rules.specs.declared.prefix.Prefix.TheVariants as prefix
+use Rattle.typing_rules.specs.Fits.{refused_beside}
 use Rattle.typing_rules.specs.Lookups.{Array, array_at, seen_as, size_of, type_of}
 use Rattle.typing_rules.specs.Names.{of_type}
 use Rattle.typing_rules.specs.Parts.{Operand}
-use Rattle.typing_rules.specs.Values.{part_value, place_of, seen_of, value_of}
+use Rattle.typing_rules.specs.Values.{part_value, place_of, prefix_fault, seen_of, value_of}
 
 -- ---- what arrays an attribute may be of
 
@@ -291,6 +293,11 @@ result c p f = unfit p (value_of c p f)
 
 -- ---- all of them
 
+-- an attribute that the profile leaves out, which waits for nothing of its prefix
+abbrev pub left_out : Place → Option Refusal → Prefix
+left_out p (Some f) = prefix.Value (refused_beside (broken code.LeftOut p) (seen.Refused f))
+left_out p None = prefix.Value (refused code.LeftOut p)
+
 abbrev pub attribute_by : Scope → Want → Place → Prefix → Place → Option Word → Prefix
 attribute_by c w p f t (Some word.First) = prefix.Value (bound c p true f)
 attribute_by c w p f t (Some word.Last) = prefix.Value (bound c p false f)
@@ -302,7 +309,7 @@ attribute_by c w p f t (Some word.Val) = mapping_of c p mapping.Val t f
 attribute_by c w p f t (Some word.Old) = prefix.Value (old_at c p f c.moment)
 attribute_by c w p f t (Some word.LoopEntry) = prefix.Value (entry_at c p f c.moment)
 attribute_by c w p f t (Some word.Result) = prefix.Value (result c p f)
-attribute_by c w p f t _ = prefix.Value (refused code.LeftOut p)
+attribute_by c w p f t _ = left_out p (prefix_fault f)
 
 -- an attribute of a prefix, with the place of its tick and its identifier's byte
 abbrev pub attributed : Scope → Want → Place → Prefix → ℕ → ℕ → Prefix

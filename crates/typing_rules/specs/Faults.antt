@@ -1,10 +1,13 @@
 -- All broken rules of an expression, a line for each demand. What one part demands doesn't wait for another; what concerns
 -- several waits for all of them.
-use Rattle.std.specs.Prelude.{ℕ, suc, ℤ, Bool, true, false, ◌==◌, ◌||◌, ◌++◌, List, [], ◌∷◌, length, slice_get, Option, Some, None, is_some, if◌then◌else◌}
+use Rattle.std.specs.Prelude.{ℕ, suc, ℤ, Bool, true, false, not, ◌==◌, ◌||◌, ◌++◌, List, [], ◌∷◌, length, slice_get, Option, Some, None, is_some, if◌then◌else◌}
 use Rattle.ada_values.specs.declared.place.Place.{Place}
 use Rattle.front_codes.specs.declared.codes.Code.{Code}
 use Rattle.front_codes.specs.declared.codes.Code.TheVariants as code
 use Rattle.front_codes.specs.declared.codes.Refusal.{Refusal}
+use Rattle.name_numbers.specs.Numbers.{word_of}
+use Rattle.name_numbers.specs.declared.words.Word.{Word}
+use Rattle.name_numbers.specs.declared.words.Word.TheVariants as word
 use Rattle.typed_units.specs.declared.operators.Bounds.{Bounds}
 use Rattle.typed_units.specs.declared.programs.Mode.{Mode}
 use Rattle.typed_units.specs.declared.programs.Mode.TheVariants as mode
@@ -41,7 +44,7 @@ use Rattle.typing_rules.specs.Forms.{left_want, right_want, suffix_prefix}
 use Rattle.typing_rules.specs.Kinds.{branches_kind, range_kind}
 use Rattle.typing_rules.specs.Lookups.{Array, array_at, components_at, entity_of, type_of}
 use Rattle.typing_rules.specs.Names.{only_operand}
-use Rattle.typing_rules.specs.Parts.{Arg, Arm, Choice, Form, Operand, Range, Suffix, applied, between, binary, choose, group, member, name, null, number, others, qualified, quantified, single, unary}
+use Rattle.typing_rules.specs.Parts.{Arg, Arm, Choice, Form, Operand, Range, Suffix, applied, attribute, between, binary, choose, group, member, name, null, number, others, qualified, quantified, single, unary}
 use Rattle.typing_rules.specs.Ranges.{member_by, range_found, reach_by, reach_of, single_choice, value_at, want_or, weaker}
 use Rattle.typing_rules.specs.Values.{entity_prefix, formals_of, place_of, prefix_fault, seen_of, value_of}
 
@@ -235,9 +238,24 @@ qualified_inside c t f as' = []
 
 -- ---- names
 
+-- an attribute that the profile leaves out, whatever its prefix is
+abbrev pub attribute_inside : Place → Option Word → List Refusal
+attribute_inside p (Some word.First) = []
+attribute_inside p (Some word.Last) = []
+attribute_inside p (Some word.Length) = []
+attribute_inside p (Some word.Succ) = []
+attribute_inside p (Some word.Pred) = []
+attribute_inside p (Some word.Pos) = []
+attribute_inside p (Some word.Val) = []
+attribute_inside p (Some word.Old) = []
+attribute_inside p (Some word.LoopEntry) = []
+attribute_inside p (Some word.Result) = []
+attribute_inside p _ = listed (fault code.LeftOut p)
+
 abbrev pub suffix_inside : Scope → Place → Prefix → Suffix → List Refusal
 suffix_inside c p f (applied as') = application_inside c p f as'
 suffix_inside c p f (qualified t as') = qualified_inside c (c.place t) f as'
+suffix_inside c p f (attribute t at) = attribute_inside p (word_of (c.name at))
 suffix_inside c p f s = []
 
 -- what is broken inside a suffix, and what the suffix itself demands of the prefix -- L10 to L19
@@ -342,6 +360,6 @@ form_faults c p (name i ss) w = name_faults c w p i ss
 form_faults c p (group as') w = grouped_faults c p w as' (only_operand as')
 form_faults c p (unary o a) w = unary_faults c.world p (place_of c a) o (faults_of c a (weaker c.world w)) (seen_of c a (weaker c.world w))
 form_faults c p (binary t o a b) w = operator_faults c p w (family_of o) a b
-form_faults c p (member b a g) w = member_faults c p b a g (range_kind g)
+form_faults c p (member b a g) w = member_faults c p (not b) a g (range_kind g)
 form_faults c p (choose as' e) w = if_faults c (branch_want w (branches_kind as' e)) as' e
 form_faults c p (quantified q at g f) w = quantified_faults c g f

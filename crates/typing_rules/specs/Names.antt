@@ -107,7 +107,8 @@ typed_as c r t q (seen.Number n) = placed_number c.world r q q t n
 typed_as c r t q (seen.Typed u x) = if t == u then seen.Typed t x else refused r q
 
 abbrev pub of_type_by : Scope → Code → Option ℕ → Place → Seen → Seen
-of_type_by c r None q s = seen.Unknown
+of_type_by c r None q (seen.Refused f) = seen.Refused f
+of_type_by c r None q _ = seen.Unknown
 of_type_by c r (Some t) q s = typed_as c r t q s
 
 -- an expression at q of the type of subtype k
