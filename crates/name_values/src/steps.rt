@@ -60,7 +60,7 @@ fn part_of(
     mut x: Expr,
     mut path: Items<Step<Expr>>,
 ) -> Result<Expr, Starved>
-    ensures { IfOk result (λ y. y ≡ part_of world.now place subtype.entry x.entry path.entry) }
+    ensures { IfOk result (λ y. y ≡ part_of world.now place subtype x path) }
 {
     while !path.is_empty() {
         let step = path.remove(0);
