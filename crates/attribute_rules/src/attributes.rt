@@ -32,7 +32,7 @@ fn length_of(
     }
 }
 
-// An attribute that the profile leaves out, beside what is refused in its prefix.
+/// An attribute that the profile leaves out, beside what is refused in its prefix.
 fn left_out(place: Place, fault: Option<Refusal>) -> Prefix
     ensures { result ≡ left_out place fault }
 {
