@@ -22,7 +22,12 @@ use Rattle.type_base.specs.declared.world.Form.TheVariants as form
 use Rattle.type_base.specs.declared.world.World.{World}
 use Rattle.type_base.specs.Demands.{broken, check_of, refused}
 use Rattle.type_base.specs.Lookups.{form_at, type_at}
-use Rattle.type_base.specs.Results.{moved}
+use Rattle.type_base.specs.Results.{moved, wide_last}
+use Rattle.typing_rules.specs.declared.aggregates.ArrayItems.{ArrayItems}
+use Rattle.typing_rules.specs.declared.aggregates.Gathered.{Gathered}
+use Rattle.typing_rules.specs.declared.aggregates.Gives.{Gives}
+use Rattle.typing_rules.specs.declared.aggregates.Manner.{Manner}
+use Rattle.typing_rules.specs.declared.aggregates.Manner.TheVariants as manner
 use Rattle.typing_rules.specs.declared.prefix.Found.{Found}
 use Rattle.typing_rules.specs.declared.prefix.Found.TheVariants.{Refused, Unknown, Is}
 use Rattle.typing_rules.specs.declared.prefix.Prefix.{Prefix}
@@ -48,11 +53,6 @@ is_end (a ∷ as') = false
 
 abbrev pub position_open : List Component → List ℕ → Option ℕ
 position_open cs given = if nat_lt (length given) (length cs) then Some (length given) else None
-
--- the components that an association gives, and whether as `others`
-pub record Gives : Type 0 where
-  pub numbers : List ℕ
-  pub by_others : Bool
 
 abbrev pub one_given : Option ℕ → Option Gives
 one_given (Some n) = Some (record { numbers = n ∷ []; by_others = false })
@@ -165,11 +165,6 @@ cover_after b done n (r ∷ rs) =
 abbrev pub cover_of : Bounds → List Bounds → Cover
 cover_of b rs = cover_after b [] 0 rs
 
--- what is gathered of an array's associations: the ranges that they give, without `others`, and the values
-pub record Gathered : Type 0 where
-  pub ranges : Found (List Bounds)
-  pub done : Found (List (Association Expr))
-
 abbrev pub none_gathered : Gathered
 none_gathered = record { ranges = Is []; done = Is [] }
 
@@ -216,18 +211,19 @@ choice_done r x = both (λ b y. y) r x
 abbrev pub gathered : Scope → Array → Gathered → Found Bounds → Option Operand → Gathered
 gathered c a g r v = record { ranges = added_range g.ranges r; done = added_item g.done (choice_done r (item_found c a.item (ranges_in r) false v)) }
 
--- the positional association after n others
+-- a number that has 128 bits, as all static values do
+abbrev pub in_width : ℤ → ℤ
+in_width n = if int_le n (pos wide_last) then n else pos wide_last
+
+abbrev pub lone_value : ℤ → Bounds
+lone_value n = record { first = n; last = n }
+
+-- the positional association after n others; what lies past the bounds is outside them, or was given before
 abbrev pub position_range : Bounds → ℕ → Found Bounds
-position_range b n = Is (record { first = b.first +ℤ pos n; last = b.first +ℤ pos n })
+position_range b n = Is (lone_value (in_width (b.first +ℤ pos n)))
 
 abbrev pub misplaced : Scope → Gathered → ℕ → Gathered
 misplaced c g from = record { ranges = g.ranges; done = spoiled g.done (broken code.L16 (c.place from)) }
-
--- how the values of an array are given
-pub data Manner : Type 0 where
-  either : Manner
-  by_place : Manner
-  by_choice : Manner
 
 -- what an association is
 pub data Sort : Type 0 where
@@ -252,29 +248,24 @@ sort_by c t others None = misfit
 abbrev pub sort_of : Scope → ℕ → Arg → Sort
 sort_of c t a = sort_by c t a.choice a.value
 
--- the associations, and whether all that isn't given may be missing
-pub record Items : Type 0 where
-  pub gathered : Gathered
-  pub partial : Bool
-
-abbrev pub sort_else : Sort → Items → (Operand → Items) → (Found Bounds → Operand → Items) → (Operand → Items) → Items
+abbrev pub sort_else : Sort → ArrayItems → (Operand → ArrayItems) → (Found Bounds → Operand → ArrayItems) → (Operand → ArrayItems) → ArrayItems
 sort_else (positional o) e f g h = f o
 sort_else (chosen r o) e f g h = g r o
 sort_else (rest o) e f g h = h o
 sort_else misfit e f g h = e
 
-abbrev pub unless_by_choice : Manner → Items → Items → Items
-unless_by_choice by_choice e i = e
+abbrev pub unless_by_choice : Manner → ArrayItems → ArrayItems → ArrayItems
+unless_by_choice manner.ByChoice e i = e
 unless_by_choice _ e i = i
 
-abbrev pub unless_by_place : Manner → Items → Items → Items
-unless_by_place by_place e i = e
+abbrev pub unless_by_place : Manner → ArrayItems → ArrayItems → ArrayItems
+unless_by_place manner.ByPlace e i = e
 unless_by_place _ e i = i
 
-abbrev pub stopped : Scope → Gathered → Arg → Items
+abbrev pub stopped : Scope → Gathered → Arg → ArrayItems
 stopped c g x = record { gathered = misplaced c g x.from; partial = true }
 
-abbrev pub with_rest : Scope → Array → Gathered → Operand → Items
+abbrev pub with_rest : Scope → Array → Gathered → Operand → ArrayItems
 with_rest c a g o = record { gathered = record { ranges = g.ranges; done = added_item g.done (item_found c a.item [] true (Some o)) }; partial = true }
 
 abbrev pub is_only : ℕ → List Arg → Bool
@@ -282,21 +273,21 @@ is_only n xs = (n == 0) && is_end xs
 
 -- The associations of an array, after n others: all positional, or all with choices, and `others` at the end. What follows one that
 -- isn't so isn't looked at. -- L16
-abbrev pub items : Scope → Array → Bounds → ℕ → Manner → Gathered → List Arg → Items
+abbrev pub items : Scope → Array → Bounds → ℕ → Manner → Gathered → List Arg → ArrayItems
 items c a b n m g [] = record { gathered = g; partial = false }
 items c a b n m g (x ∷ xs) =
     sort_else (sort_of c (type_of c.world a.index) x) (stopped c g x)
-    (λ o. unless_by_choice m (stopped c g x) (items c a b (suc n) by_place (gathered c a g (position_range b n) (Some o)) xs))
-    (λ r o. unless_by_place m (stopped c g x) (items c a b (suc n) by_choice (gathered c a g (some_values (is_only n xs) (c.place x.from) r) (Some o)) xs))
+    (λ o. unless_by_choice m (stopped c g x) (items c a b (suc n) manner.ByPlace (gathered c a g (position_range b n) (Some o)) xs))
+    (λ r o. unless_by_place m (stopped c g x) (items c a b (suc n) manner.ByChoice (gathered c a g (some_values (is_only n xs) (c.place x.from) r) (Some o)) xs))
     (λ o. if is_end xs then with_rest c a g o else stopped c g x)
 
-abbrev pub items_covered : Scope → Place → Bounds → List Arg → Items → Found (List (Association Expr))
+abbrev pub items_covered : Scope → Place → Bounds → List Arg → ArrayItems → Found (List (Association Expr))
 items_covered c p b as' i = covered c p b as' i.partial i.gathered.ranges i.gathered.done
 
 -- L16: each index once
 abbrev pub array_aggregate : Scope → Place → ℕ → Array → Bounds → List Arg → Seen
 array_aggregate c p k a b as' =
-    seen_then (items_covered c p b as' (items c a b 0 either none_gathered as')) (λ xs. seen_as c p k (node.Aggregate composite.Array b xs))
+    seen_then (items_covered c p b as' (items c a b 0 manner.Either none_gathered as')) (λ xs. seen_as c p k (node.Aggregate composite.Array b xs))
 
 -- ---- all of them
 

@@ -25,6 +25,10 @@ use Rattle.type_base.specs.declared.world.Form.{Form as TypeForm}
 use Rattle.type_base.specs.declared.world.Form.TheVariants as form
 use Rattle.type_base.specs.declared.world.Formal.{Formal}
 use Rattle.type_base.specs.declared.world.Routine.{Routine}
+use Rattle.typing_rules.specs.declared.aggregates.ArrayItems.{ArrayItems}
+use Rattle.typing_rules.specs.declared.aggregates.Gives.{Gives}
+use Rattle.typing_rules.specs.declared.aggregates.Manner.{Manner}
+use Rattle.typing_rules.specs.declared.aggregates.Manner.TheVariants as manner
 use Rattle.typing_rules.specs.declared.prefix.Found.{Found}
 use Rattle.typing_rules.specs.declared.prefix.Found.TheVariants as found
 use Rattle.typing_rules.specs.declared.prefix.Mapping.{Mapping}
@@ -33,7 +37,7 @@ use Rattle.typing_rules.specs.declared.prefix.Prefix.{Prefix}
 use Rattle.typing_rules.specs.declared.prefix.Prefix.TheVariants as prefix
 use Rattle.typing_rules.specs.declared.prefix.Reach.{Reach}
 use Rattle.typing_rules.specs.declared.prefix.Reach.TheVariants as reach
-use Rattle.typing_rules.specs.Aggregates.{Gives, Items, Manner, Sort, by_choice, by_place, chosen, components_for, covered, either, first_given, is_end, is_only, item_found, items, misfit, none_gathered, positional, position_range, ranges_in, rest, some_values, sort_of, value_for}
+use Rattle.typing_rules.specs.Aggregates.{Sort, chosen, components_for, covered, first_given, is_end, is_only, item_found, items, misfit, none_gathered, positional, position_range, ranges_in, rest, some_values, sort_of, value_for}
 use Rattle.typing_rules.specs.Calls.{actual_of, formal_for, is_named, operand_of}
 use Rattle.typing_rules.specs.Conditions.{Common, branch, branch_want, chosen_else, common_of, index_subtype}
 use Rattle.typing_rules.specs.Fits.{found_fault}
@@ -182,11 +186,11 @@ sort_faults (rest o) e f g h = h o
 sort_faults misfit e f g h = e
 
 abbrev pub where_by_place : Manner → List Refusal → List Refusal → List Refusal
-where_by_place by_place e fs = e
+where_by_place manner.ByPlace e fs = e
 where_by_place m e fs = fs
 
 abbrev pub where_by_choice : Manner → List Refusal → List Refusal → List Refusal
-where_by_choice by_choice e fs = e
+where_by_choice manner.ByChoice e fs = e
 where_by_choice m e fs = fs
 
 -- L16: all positional, or all with choices, and `others` at the end; what follows one that isn't so isn't looked at
@@ -194,16 +198,16 @@ abbrev pub items_faults : Scope → Array → Bounds → ℕ → Manner → List
 items_faults c a b n m [] = []
 items_faults c a b n m (x ∷ xs) =
     sort_faults (sort_of c (type_of c.world a.index) x) (listed (fault code.L16 (c.place x.from)))
-    (λ o. where_by_choice m (listed (fault code.L16 (c.place x.from))) (item_faults c a (ranges_in (position_range b n)) false o ++ items_faults c a b (suc n) by_place xs))
-    (λ r o. where_by_place m (listed (fault code.L16 (c.place x.from))) ((choice_faults c (type_of c.world a.index) x.choice ++ listed (empty_fault (is_only n xs) (c.place x.from) r) ++ item_faults c a (ranges_in r) false o) ++ items_faults c a b (suc n) by_choice xs))
+    (λ o. where_by_choice m (listed (fault code.L16 (c.place x.from))) (item_faults c a (ranges_in (position_range b n)) false o ++ items_faults c a b (suc n) manner.ByPlace xs))
+    (λ r o. where_by_place m (listed (fault code.L16 (c.place x.from))) ((choice_faults c (type_of c.world a.index) x.choice ++ listed (empty_fault (is_only n xs) (c.place x.from) r) ++ item_faults c a (ranges_in r) false o) ++ items_faults c a b (suc n) manner.ByChoice xs))
     (λ o. if is_end xs then item_faults c a [] true o else listed (fault code.L16 (c.place x.from)))
 
 -- L16: each index once
-abbrev pub cover_fault : Scope → Place → Bounds → List Arg → Items → Option Refusal
+abbrev pub cover_fault : Scope → Place → Bounds → List Arg → ArrayItems → Option Refusal
 cover_fault c p b as' i = found_fault (covered c p b as' i.partial i.gathered.ranges (found.Is []))
 
 abbrev pub array_faults : Scope → Place → Array → Bounds → List Arg → List Refusal
-array_faults c p a b as' = items_faults c a b 0 either as' ++ listed (cover_fault c p b as' (items c a b 0 either none_gathered as'))
+array_faults c p a b as' = items_faults c a b 0 manner.Either as' ++ listed (cover_fault c p b as' (items c a b 0 manner.Either none_gathered as'))
 
 abbrev pub record_faults_by : Scope → Place → Option (List Component) → List Arg → List Refusal
 record_faults_by c p (Some cs) as' = record_faults c p cs [] false as'
