@@ -30,7 +30,7 @@ use Rattle.type_base.specs.declared.world.Routine.{Routine}
 use Rattle.type_base.specs.declared.world.World.{World}
 use Rattle.type_base.specs.Demands.{bounds_at, check_in, is_integer, known, made, refused, subtype_of, wanted_integer}
 use Rattle.type_base.specs.Lookups.{form_at, routine_at}
-use Rattle.type_base.specs.Results.{number_in}
+use Rattle.type_base.specs.Results.{number_in, universal}
 use Rattle.type_base.specs.Standard.{integer_base}
 use Rattle.typing_rules.specs.declared.prefix.Mapping.{Mapping}
 use Rattle.typing_rules.specs.declared.prefix.Mapping.TheVariants as mapping
@@ -124,9 +124,13 @@ abbrev pub bound : Scope → Place → Bool → Prefix → Seen
 bound c p first (prefix.Subtype k) = scalar_bound c p first k (form_at c.world k)
 bound c p first f = bound_at c p first (bounded c p f)
 
+-- a length, as far as it has 128 bits
+abbrev pub length_of : Place → ℤ → Seen
+length_of p n = if in_base universal n then seen.Number n else refused code.TooWide p
+
 -- the length is a universal number where it is static, and else of the type that the context gives, or Integer
 abbrev pub length_at : Scope → Want → Place → Place → Bounded → Seen
-length_at c w p t (static i b) = seen.Number (size_of b)
+length_at c w p t (static i b) = length_of p (size_of b)
 length_at c w p t (known_bounds i b x) = seen_as c p (wanted_integer c.world w) (node.Length t x)
 length_at c w p t (of_value i x) = seen_as c p (wanted_integer c.world w) (node.Length t x)
 length_at c w p t no_array = refused code.L19 p
