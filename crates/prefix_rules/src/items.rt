@@ -78,11 +78,7 @@ pub fn index_found(
 }
 
 /// The item of an array, which is an object or a part of one, at an index. `Err` where memory was refused.
-pub fn item_of(
-    part: Part,
-    array: ArrayForm,
-    index: Found<Indexed<Expr>>,
-) -> Result<Prefix, Starved>
+pub fn item_of(part: Part, array: ArrayForm, index: Found<Indexed<Expr>>) -> Result<Prefix, Starved>
     ensures { IfOk result (λ f. f ≡ item_of part (record { index = array.index; bounds = array.bounds; item = array.item }) index) }
 {
     match index {

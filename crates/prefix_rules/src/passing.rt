@@ -5,6 +5,7 @@ ghost use Rattle.reading_scope.specs.Scopes.{scope_of};
 ghost use Rattle.type_base.specs.Demands.{check_in};
 ghost use Rattle.type_base.specs.Lookups.{type_at};
 ghost use Rattle.typing_rules.specs.Calls.{check_between, not_a_variable, passed, passed_as, same_type, variable, writable};
+ghost use Rattle.typing_rules.specs.Values.{value_of};
 
 use crate::items::includes;
 use ada_values::Place;
@@ -39,6 +40,22 @@ fn not_a_variable(code: Code, place: Place, seen: Seen) -> Found<Part>
     }
 }
 
+/// A name that is a value, where a rule wants a variable.
+fn value_passed(
+    alloc: Global,
+    scope: &Scope,
+    code: Code,
+    place: Place,
+    prefix: Prefix,
+) -> Result<Found<Part>, Starved>
+    ensures { IfOk result (λ f. f ≡ not_a_variable code place (value_of (scope_of scope.now) place prefix)) }
+{
+    match value_of(alloc, scope, place, prefix) {
+        Ok(seen) => Ok(not_a_variable(code, place, seen)),
+        Err(error) => Err(error),
+    }
+}
+
 /// The variable that a name at a place is; by a rule it is one. `Err` where memory was refused.
 pub fn variable(
     alloc: Global,
@@ -58,10 +75,7 @@ pub fn variable(
                 Ok(Found::Refused(Refusal { code, place }))
             }
         }
-        other => match value_of(alloc, scope, place, other) {
-            Ok(seen) => Ok(not_a_variable(code, place, seen)),
-            Err(error) => Err(error),
-        },
+        other => value_passed(alloc, scope, code, place, other),
     }
 }
 

@@ -75,12 +75,7 @@ fn component_part(
     }
 }
 
-fn part_component(
-    world: &World,
-    place: Place,
-    name: u32,
-    part: Part,
-) -> Result<Prefix, Starved>
+fn part_component(world: &World, place: Place, name: u32, part: Part) -> Result<Prefix, Starved>
     ensures { IfOk result (λ f. f ≡ part_component place name part (components_at world.now part.subtype)) }
 {
     match components_at(world, part.subtype) {
