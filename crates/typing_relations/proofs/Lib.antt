@@ -1,0 +1,6 @@
+pub mod Accepting
+pub mod Values
+pub mod Parts
+pub mod Forms
+pub mod Names
+pub mod Trees
