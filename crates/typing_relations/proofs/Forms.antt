@@ -55,12 +55,10 @@ use Rattle.typing_relations.specs.Demanded.{IsBranch, IsResult, TakesNumber, Tes
 use Rattle.typing_relations.specs.Obeys as rule
 use Rattle.typing_relations.specs.Obeys.{Arms, Branch, Condition, Else, Has, ItemStands, Reaches, Stands, branches_want, common_type}
 use Rattle.typing_relations.proofs.Accepting.{Accepts, Allows, BothAre, Finds, Kinded, Reached, accepted_as, accepts_always, accepts_both, accepts_map, beside_accepts, both_are, both_finds, finds_always, finds_itself, finds_map, found_as, if_accepts, if_finds, kinded, result, result_with, then_accepts}
+use Rattle.typing_relations.proofs.Parts.{ExprGood, expr_accepts}
 use Rattle.typing_relations.proofs.Values.{both_true, of_valued, operand_accepts, placed_accepts}
 
 -- ---- parts that obey
-
-abbrev pub ExprGood : Scope → tree.Expr → Type 0
-ExprGood c e = (w : Want) → Allows ((read c e).prefix w) (Stands c w e)
 
 abbrev pub MaybeGood : Scope → tree.MaybeExpr → Type 0
 MaybeGood c tree.no_expr = Unit {0}
@@ -72,9 +70,6 @@ RangeGood c (tree.range l h) = ExprGood c l × MaybeGood c h
 abbrev pub ArmsGood : Scope → tree.Arms → Type 0
 ArmsGood c tree.no_arms = Unit {0}
 ArmsGood c (tree.arm x g as') = (ExprGood c x × ExprGood c g) × ArmsGood c as'
-
-pub expr_accepts : (c : Scope) (e : tree.Expr) (w : Want) → ExprGood c e → Accepts (seen_of c (read c e) w) (Has c w e)
-expr_accepts c e w h = of_valued c (place_of c (read c e)) (Stands c w e) (Has c w e) (λ f v j k. rule.has c w e f v j k) ((read c e).prefix w) (h w)
 
 -- ---- operators
 

@@ -18,7 +18,6 @@ use Rattle.type_base.specs.declared.seen.Moment.TheVariants as moment
 use Rattle.type_base.specs.declared.seen.Seen.{Seen}
 use Rattle.type_base.specs.declared.seen.Seen.TheVariants as seen
 use Rattle.type_base.specs.declared.seen.Want.{Want}
-use Rattle.type_base.specs.declared.seen.Want.TheVariants as want
 use Rattle.type_base.specs.declared.world.Component.{Component}
 use Rattle.type_base.specs.declared.world.Formal.{Formal}
 use Rattle.type_base.specs.declared.world.Routine.{Routine}
@@ -31,20 +30,21 @@ use Rattle.typing_rules.specs.declared.prefix.Prefix.{Prefix}
 use Rattle.typing_rules.specs.declared.prefix.Prefix.TheVariants as prefix
 use Rattle.typing_rules.specs.Aggregates.{no_subtype, qualification}
 use Rattle.typing_rules.specs.Attributes.{attribute_by, attributed, bounded, entry_at, left_out, old_at, range_at}
-use Rattle.typing_rules.specs.Calls.{arguments, operand_of}
+use Rattle.typing_rules.specs.Calls.{arguments}
 use Rattle.typing_rules.specs.Forms.{application, suffix_prefix, suffixes_prefix}
 use Rattle.typing_rules.specs.Lookups.{Array, array_at, components_at, entity_by, entity_of, place_among, seen_as}
-use Rattle.typing_rules.specs.Names.{after_unknown, array_item, beside, call_by, component, component_of, component_part, function_call, index_of, item_of, operand_beside, part_component, part_item, record_component, routine_call, selected_by, unless_refused, value_component, value_item}
+use Rattle.typing_rules.specs.Names.{array_item, call_by, component, component_of, component_part, function_call, index_of, item_of, part_component, part_item, record_component, routine_call, selected_by, unless_refused, value_component, value_item}
 use Rattle.typing_rules.specs.Parts as parts
 use Rattle.typing_rules.specs.Parts.{Arg, Operand}
 use Rattle.typing_rules.specs.Reading.{args, suffix, suffixes, tick}
-use Rattle.typing_rules.specs.Values.{call_value, component_subtype, entity_prefix, formals_of, prefix_fault, seen_of, value_of}
+use Rattle.typing_rules.specs.Values.{call_value, component_subtype, entity_prefix, formals_of, prefix_fault, value_of}
 use Rattle.typing_relations.specs.Demanded as demanded
 use Rattle.typing_relations.specs.Demanded.{Begins, Makes, Valued}
 use Rattle.typing_relations.specs.Obeys as rule
 use Rattle.typing_relations.specs.Obeys.{Arguments, Follows, Index, Step}
-use Rattle.typing_relations.proofs.Accepting.{Accepts, Allows, Finds, accepts_map, allows_all, allows_map, beside_accepts, finds_map, makes_accepts, then_accepts}
-use Rattle.typing_relations.proofs.Parts.{ArgsGood, arguments_finds, conversion_step, index_finds, mapped_step, qualified_step}
+use Rattle.typing_relations.proofs.Accepting.{Accepts, Allows, Finds, accepts_map, allows_all, allows_map, finds_map, makes_accepts, then_accepts}
+use Rattle.typing_relations.proofs.Parts.{ArgsGood, arguments_finds, conversion_step, index_finds, mapped_step}
+use Rattle.typing_relations.proofs.Aggregated.{qualified_step, unknown_accepts}
 use Rattle.typing_relations.proofs.Values.{begins, valued}
 
 -- ---- parts that obey
@@ -120,21 +120,6 @@ selected_step c w p f s (Some l) e = anew_step c w p f s l e
 selected_step c w p f s None e = component_step c w p f s e
 
 -- ---- items
-
-beside_unknown : (P : Seen → Type 0) (u s : Seen) → Accepts s P → Accepts (beside u s) P
-beside_unknown P (seen.Refused f) s h = beside_accepts P f s
-beside_unknown P seen.Unknown s h = h
-beside_unknown P (seen.Number n) s h = h
-beside_unknown P (seen.Typed t x) s h = h
-
-operand_unknown : (P : Seen → Type 0) (c : Scope) (o : Option Operand) (s : Seen) → Accepts s P → Accepts (operand_beside c o s) P
-operand_unknown P c None s h = h
-operand_unknown P c (Some o) s h = beside_unknown P (seen_of c o want.Unknown) s h
-
--- after what is unknown nothing is accepted
-pub unknown_accepts : (P : Seen → Type 0) (c : Scope) (as' : List Arg) → Accepts (after_unknown c as') P
-unknown_accepts P c [] = tt
-unknown_accepts P c (a ∷ as') = operand_unknown P c (operand_of a) (after_unknown c as') (unknown_accepts P c as')
 
 array_item_step : (c : Scope) (w : Want) (p : Place) (f : Prefix) (as' : tree.Args) (t : ℕ) (x : Expr) (m : Option Array) → ArgsGood c as' → Valued c.world p f (seen.Typed t x) → array_at c.world (subtype_of x) ≡ m
     → Accepts (array_item c p x (args c as') m) (λ v. Step c w p f (tree.applied as') (prefix.Value v))

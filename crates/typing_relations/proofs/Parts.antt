@@ -7,7 +7,6 @@ use Rattle.ada_values.specs.declared.place.Place.{Place}
 use Rattle.ada_values.specs.declared.values.Value.TheVariants as value'
 use Rattle.front_codes.specs.declared.codes.Code.{Code}
 use Rattle.front_codes.specs.declared.codes.Code.TheVariants as code
-use Rattle.ada_text.specs.declared.token.Span.{Span}
 use Rattle.front_codes.specs.declared.codes.Refusal.{Refusal}
 use Rattle.syntax_view.specs.Trees as tree
 use Rattle.typed_units.specs.declared.expressions.Actual.{Actual}
@@ -15,7 +14,6 @@ use Rattle.typed_units.specs.declared.expressions.Actual.TheVariants as actual
 use Rattle.typed_units.specs.declared.expressions.Argument.{Argument}
 use Rattle.typed_units.specs.declared.expressions.Expr.{Expr, out-Expr}
 use Rattle.typed_units.specs.declared.expressions.ExprNode.TheVariants as node
-use Rattle.typed_units.specs.declared.expressions.Fitted.{Fitted}
 use Rattle.typed_units.specs.declared.programs.Mode.{Mode}
 use Rattle.typed_units.specs.declared.programs.Mode.TheVariants as mode
 use Rattle.type_base.specs.Scope.{Scope}
@@ -35,21 +33,20 @@ use Rattle.typing_rules.specs.declared.prefix.Mapping.TheVariants as mapping
 use Rattle.typing_rules.specs.declared.prefix.Part.{Part}
 use Rattle.typing_rules.specs.declared.prefix.Prefix.{Prefix}
 use Rattle.typing_rules.specs.declared.prefix.Prefix.TheVariants as prefix
-use Rattle.typing_rules.specs.Aggregates.{aggregate, qualified_as, qualified_by, qualified_node}
 use Rattle.typing_rules.specs.Attributes.{literal, literal_by, mapped, mapped_by, next_value, position}
 use Rattle.typing_rules.specs.Calls.{actual_of, added, argument_by, argument_for, arguments, formal_for, is_named, not_a_variable, option_else, passed, passed_as, same_type, variable, writable}
 use Rattle.typing_rules.specs.Fits.{fit, found_then, spoiled, takes}
-use Rattle.typing_rules.specs.Lookups.{Array, seen_as, type_of}
+use Rattle.typing_rules.specs.Lookups.{Array, type_of}
 use Rattle.typing_rules.specs.Names.{conversion, conversion_of, converted, convertible, index_by, index_of, index_placed, number_converted, of_type, only_operand, typed_converted, universal_converted}
 use Rattle.typing_rules.specs.Parts.{Operand}
-use Rattle.typing_rules.specs.Reading.{arg, args, item}
+use Rattle.typing_rules.specs.Reading.{arg, args, item, read}
 use Rattle.typing_rules.specs.Values.{place_of, seen_of, value_of}
 use Rattle.expression_rules.specs.Rules.{IsIntegerType}
 use Rattle.typing_relations.specs.Demanded as demanded
 use Rattle.typing_relations.specs.Demanded.{AnyInteger, Converts, Fits, Given, IsResult, OfType, Only}
 use Rattle.typing_relations.specs.Obeys as rule
-use Rattle.typing_relations.specs.Obeys.{Arguments, Index, ItemHas, ItemStands, MapsTo, Passes, Qualifies, Stands}
-use Rattle.typing_relations.proofs.Accepting.{Accepts, Allows, BothAre, Finds, accepts_always, accepts_map, both_are, finds_itself, finds_map, found_as, if_accepts, if_finds, makes_accepts, result, result_with, spoiled_finds, then_accepts, then_finds, with_finds}
+use Rattle.typing_relations.specs.Obeys.{Arguments, Has, Index, ItemHas, ItemStands, MapsTo, Passes, Qualifies, Stands}
+use Rattle.typing_relations.proofs.Accepting.{Accepts, Allows, BothAre, Finds, accepts_always, accepts_map, both_are, finds_itself, finds_map, found_as, if_accepts, if_finds, result, result_with, spoiled_finds, then_finds, with_finds}
 use Rattle.typing_relations.proofs.Values.{TypedAs, both_true, fit_finds, of_type_accepts, of_valued}
 
 -- ---- parts that obey
@@ -57,10 +54,13 @@ use Rattle.typing_relations.proofs.Values.{TypedAs, both_true, fit_finds, of_typ
 abbrev pub ItemGood : Scope → tree.Item → Type 0
 ItemGood c i = (w : Want) → Allows ((item c i).prefix w) (ItemStands c w i)
 
+abbrev pub ExprGood : Scope → tree.Expr → Type 0
+ExprGood c e = (w : Want) → Allows ((read c e).prefix w) (Stands c w e)
+
 abbrev pub ChoiceGood : Scope → tree.ArgChoice → Type 0
 ChoiceGood c tree.other_parts = Unit {0}
 ChoiceGood c (tree.part i) = ItemGood c i
-ChoiceGood c (tree.parts l h) = Unit {0}
+ChoiceGood c (tree.parts l h) = ExprGood c l × ExprGood c h
 
 abbrev pub ValueGood : Scope → tree.Value → Type 0
 ValueGood c tree.no_value = Unit {0}
@@ -75,6 +75,9 @@ ArgsGood c (tree.args a as') = ArgGood c a × ArgsGood c as'
 
 pub item_accepts : (c : Scope) (i : tree.Item) (w : Want) → ItemGood c i → Accepts (seen_of c (item c i) w) (ItemHas c w i)
 item_accepts c i w h = of_valued c (place_of c (item c i)) (ItemStands c w i) (ItemHas c w i) (λ f v j k. rule.item_has c w i f v j k) ((item c i).prefix w) (h w)
+
+pub expr_accepts : (c : Scope) (e : tree.Expr) (w : Want) → ExprGood c e → Accepts (seen_of c (read c e) w) (Has c w e)
+expr_accepts c e w h = of_valued c (place_of c (read c e)) (Stands c w e) (Has c w e) (λ f v j k. rule.has c w e f v j k) ((read c e).prefix w) (h w)
 
 -- ---- the only argument
 
@@ -201,7 +204,7 @@ mapped_maps c p mapping.Pos t k i h =
     let w = want.Subtype (type_of c.world k) in
     let u = seen_of c (item c i) w in
     position_maps c p k i u _ (MapsTo c p t mapping.Pos k i) (of_type_accepts c code.L11 k (place_of c (item c i)) u (ItemHas c w i) (item_accepts c i w h))
-    (λ j x v a b d z. rule.pos c p t k j i u v x a b d z)
+    (λ j x v a b d z. rule.position_of c p t k j i u v x a b d z)
 mapped_maps c p mapping.Val t k i h = literal_maps c p t k i (seen_of c (item c i) want.Free) (item_accepts c i want.Free h) refl
 
 pub mapped_step : (c : Scope) (w : Want) (p : Place) (m : Mapping) (t : Place) (k : ℕ) (as' : tree.Args) → ArgsGood c as'
@@ -286,7 +289,7 @@ record Rest (c : Scope) (fs : List Formal) (given : List ℕ) (named : Bool) (do
   is : done ≡ found.Is so_far
   rest : Arguments c fs given named so_far as' ys
 
-if_spoiled : {A : Type 0} → (P : A → Type 0) (b : Bool) (x : Found A) (f : Refusal) → (b ≡ true → Finds x P) → Finds (if b then x else spoiled x f) P
+pub if_spoiled : {A : Type 0} → (P : A → Type 0) (b : Bool) (x : Found A) (f : Refusal) → (b ≡ true → Finds x P) → Finds (if b then x else spoiled x f) P
 if_spoiled P true x f h = h refl
 if_spoiled P false x f h = spoiled_finds P x f
 
@@ -324,11 +327,11 @@ all_arguments c p fs given named done (tree.args a as') h =
     more_arguments c p fs given named done a as' (formal_for c fs given named (arg c a)) refl h.0
     (λ n. all_arguments c p fs (n ∷ given) (named || is_named (arg c a).value) (added done (argument_for c fs n (arg c a))) as' h.1)
 
-abbrev found_or : {A : Type 0} → A → Found A → A
+abbrev pub found_or : {A : Type 0} → A → Found A → A
 found_or d (found.Is a) = a
 found_or d _ = d
 
-is_injective : {A : Type 0} → (a b : A) → found.Is a ≡ found.Is b → a ≡ b
+pub is_injective : {A : Type 0} → (a b : A) → found.Is a ≡ found.Is b → a ≡ b
 is_injective a b e = ap (found_or a) e
 
 first_arguments : (c : Scope) (fs : List Formal) (as' : tree.Args) (ys : List (Argument Expr)) (z : Rest c fs [] false (found.Is []) as' ys) → Arguments c fs [] false [] as' ys
@@ -336,34 +339,3 @@ first_arguments c fs as' ys z = subst (λ xs. Arguments c fs [] false xs as' ys)
 
 pub arguments_finds : (c : Scope) (p : Place) (fs : List Formal) (as' : tree.Args) → ArgsGood c as' → Finds (arguments c p fs [] false (found.Is []) (args c as')) (Arguments c fs [] false [] as')
 arguments_finds c p fs as' h = finds_map (Rest c fs [] false (found.Is []) as') (Arguments c fs [] false [] as') (λ ys z. first_arguments c fs as' ys z) (arguments c p fs [] false (found.Is []) (args c as')) (all_arguments c p fs [] false (found.Is []) as' h)
-
--- ---- qualifications
-
-own_result : (s : Seen) → Accepts s (λ u. IsResult u u)
-own_result (seen.Refused f) = tt
-own_result seen.Unknown = tt
-own_result (seen.Number n) = (refl, demanded.universal n)
-own_result (seen.Typed t x) = (refl, demanded.typed t x)
-
-qualified_accepts : (c : Scope) (w : Want) (p : Place) (k : ℕ) (s : Span) (as' : tree.Args) (v : Found (Fitted Expr)) → Finds v (Qualifies c k s as')
-    → Accepts (qualified_as c p k v) (λ u. rule.Step c w p (prefix.Subtype k) (tree.ticked s (tree.qualified as')) (prefix.Value u))
-qualified_accepts c w p k s as' v h =
-    then_accepts (Qualifies c k s as') (λ u. rule.Step c w p (prefix.Subtype k) (tree.ticked s (tree.qualified as')) (prefix.Value u)) v (λ x. seen_as c p k (qualified_node x x.bounds (out-Expr x.value).node)) h
-    (λ x i.
-    let n = qualified_node x x.bounds (out-Expr x.value).node in
-    accepts_map (demanded.Makes c.world p k n) (λ u. rule.Step c w p (prefix.Subtype k) (tree.ticked s (tree.qualified as')) (prefix.Value u)) (λ u j. rule.qualified c w p k s as' x u i j) (seen_as c p k n) (makes_accepts c p k n))
-
-pub qualified_step : (c : Scope) (w : Want) (p : Place) (k : ℕ) (s : Span) (as' : tree.Args) → ArgsGood c as'
-    → Accepts (qualified_by c p k (c.place s.from) (args c as') (only_operand (args c as'))) (λ u. rule.Step c w p (prefix.Subtype k) (tree.ticked s (tree.qualified as')) (prefix.Value u))
-qualified_step c w p k s as' h =
-    let a = aggregate c (c.place s.from) (want.Subtype k) (args c as') in
-    let q = c.place s.from in
-    only_cases c as' (λ o. Accepts (qualified_by c p k (c.place s.from) (args c as') o) (λ u. rule.Step c w p (prefix.Subtype k) (tree.ticked s (tree.qualified as')) (prefix.Value u))) h
-    (qualified_accepts c w p k s as' (fit c.world code.L18 false k q a)
-    (finds_map (λ x. Fits c.world false k q a x × IsResult a a) (Qualifies c k s as') (λ x z. rule.by_aggregate c k s as' a x z.1 z.0) (fit c.world code.L18 false k q a) (fit_finds c.world code.L18 false k q a (λ u. IsResult u u) (own_result a))))
-    (λ i only good.
-    let u = seen_of c (item c i) (want.Subtype k) in
-    let r = place_of c (item c i) in
-    qualified_accepts c w p k s as' (fit c.world code.L18 false k r u)
-    (finds_map (λ x. Fits c.world false k r u x × ItemHas c (want.Subtype k) i u) (Qualifies c k s as') (λ x z. rule.by_value c k s as' i u x only z.1 z.0) (fit c.world code.L18 false k r u)
-    (fit_finds c.world code.L18 false k r u (ItemHas c (want.Subtype k) i) (item_accepts c i (want.Subtype k) good))))

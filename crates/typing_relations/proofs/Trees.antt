@@ -18,11 +18,12 @@ use Rattle.typing_rules.specs.Reading.{args, item, item_seen}
 use Rattle.typing_rules.specs.Values.{seen_of}
 use Rattle.typing_relations.specs.Demanded.{IsResult}
 use Rattle.typing_relations.specs.Obeys as rule
-use Rattle.typing_relations.specs.Obeys.{Has, HasNumber, HasType, ItemHas, Stands}
+use Rattle.typing_relations.specs.Obeys.{Aggregates, Has, HasNumber, HasType, ItemHas, Stands}
 use Rattle.typing_relations.proofs.Accepting.{Accepts, Allows, accepts_both, accepts_map, allows_map, result}
-use Rattle.typing_relations.proofs.Forms.{ArmsGood, ExprGood, MaybeGood, RangeGood, binary_stands, expr_accepts, if_stands, member_stands, quantified_stands, unary_stands}
+use Rattle.typing_relations.proofs.Aggregated.{aggregate_accepts}
+use Rattle.typing_relations.proofs.Forms.{ArmsGood, MaybeGood, RangeGood, binary_stands, if_stands, member_stands, quantified_stands, unary_stands}
 use Rattle.typing_relations.proofs.Names.{AttributeGood, SuffixGood, SuffixesGood, name_follows}
-use Rattle.typing_relations.proofs.Parts.{ArgGood, ArgsGood, ChoiceGood, ItemGood, ValueGood, item_accepts, only_cases}
+use Rattle.typing_relations.proofs.Parts.{ArgGood, ArgsGood, ChoiceGood, ItemGood, ValueGood, item_accepts, only_cases, ExprGood, expr_accepts}
 
 -- ---- parentheses
 
@@ -38,7 +39,7 @@ group_stands c w s as' h =
     let P : Seen → Type 0 = λ v. Stands c w (tree.at s (tree.group as')) (prefix.Value v) in
     let a = aggregate c p w (args c as') in
     only_cases c as' (λ o. Accepts (grouped c p w (args c as') o) P) h
-    (accepts_map (IsResult a) P (λ v z. rule.aggregate_is c w s as' v z) a (result a))
+    (accepts_map (Aggregates c p w as') P (λ v z. rule.aggregate_is c w s as' v z) a (aggregate_accepts c w p as' h))
     (λ i only good.
     let u = seen_of c (item c i) w in
     accepts_both (λ v. ItemHas c w i u) (IsResult (moved p u)) P (λ v y z. rule.in_parentheses c w s as' i u v only y z) (moved p u) (moved_with p u (ItemHas c w i) (item_accepts c i w good)) (result (moved p u)))
@@ -89,7 +90,7 @@ mutual
   choice_good : (c : Scope) (h : tree.ArgChoice) → ChoiceGood c h
   choice_good c tree.other_parts = tt
   choice_good c (tree.part i) = item_good c i
-  choice_good c (tree.parts l h) = tt
+  choice_good c (tree.parts l h) = (expr_good c l, expr_good c h)
 
   value_good : (c : Scope) (v : tree.Value) → ValueGood c v
   value_good c tree.no_value = tt

@@ -1,5 +1,5 @@
 -- What rules demand of parts that are accepted, and what these give.
-use Rattle.std.specs.Prelude.{◌≡◌, ℕ, ℤ, Bool, true, [], Some}
+use Rattle.std.specs.Prelude.{◌≡◌, ℕ, ℤ, Bool, true, List, [], Some}
 use Rattle.ada_values.specs.Scalars.{in_base}
 use Rattle.ada_values.specs.declared.place.Place.{Place}
 use Rattle.ada_values.specs.declared.scalars.Scalar.{Scalar}
@@ -12,6 +12,7 @@ use Rattle.typed_units.specs.declared.expressions.Expr.{Expr, out-Expr}
 use Rattle.typed_units.specs.declared.expressions.ExprNode.{ExprNode}
 use Rattle.typed_units.specs.declared.expressions.ExprNode.TheVariants as node
 use Rattle.typed_units.specs.declared.expressions.Fitted.{Fitted}
+use Rattle.typed_units.specs.declared.operators.Bounds.{Bounds}
 use Rattle.typed_units.specs.declared.operators.Object.{Object}
 use Rattle.type_base.specs.Scope.{Scope}
 use Rattle.type_base.specs.declared.entities.Access.{Access}
@@ -24,6 +25,7 @@ use Rattle.type_base.specs.declared.world.Form.TheVariants as form
 use Rattle.type_base.specs.declared.world.Routine.{Routine}
 use Rattle.type_base.specs.declared.world.World.{World}
 use Rattle.type_base.specs.Demands.{fitted, is_one, is_whole, made, subtype_of}
+use Rattle.type_base.specs.Results.{number_in}
 use Rattle.type_base.specs.Lookups.{constant_at, form_at, routine_at, type_at}
 use Rattle.typing_rules.specs.declared.prefix.Between.{Between}
 use Rattle.typing_rules.specs.declared.prefix.Part.{Part}
@@ -32,6 +34,10 @@ use Rattle.typing_rules.specs.declared.prefix.Prefix.{Prefix}
 use Rattle.typing_rules.specs.declared.prefix.Prefix.TheVariants as prefix
 use Rattle.typing_rules.specs.declared.prefix.Reach.{Reach}
 use Rattle.typing_rules.specs.declared.prefix.Reach.TheVariants as reach
+use Rattle.typing_rules.specs.declared.aggregates.Manner.{Manner}
+use Rattle.typing_rules.specs.declared.aggregates.Manner.TheVariants as manner
+use Rattle.typing_rules.specs.Aggregates as cover
+use Rattle.typing_rules.specs.Aggregates.{cover_of}
 use Rattle.typing_rules.specs.Conditions.{Common}
 use Rattle.typing_rules.specs.Fits.{takes}
 use Rattle.typing_rules.specs.Lookups.{scalar_value, type_of}
@@ -145,3 +151,24 @@ pub data Tests (c : Scope) (g : Range) : Seen → Reach → Type 0 where
 pub data IsBranch (w : World) (k : Common) (q : Place) : Seen → Expr → Type 0 where
   number_branch : (n : ℤ) → TakesNumber w k.type n → IsBranch w k q (Number n) (made q k.type (node.Static (value.Int n)))
   value_branch : (x : Expr) → is_one w k.subtype (subtype_of x) ≡ true → IsBranch w k q (Typed k.type x) x
+
+-- ---- aggregates
+
+-- a value at q of type t is static, and n -- L16; Ada RM 4.9
+pub record IsStatic (w : World) (t : ℕ) (q : Place) (u : Seen) (n : ℤ) : Type 0 where
+  pub value : Expr
+  pub of_type : OfType w t q u value
+  pub is : number_in value ≡ Some n
+
+abbrev pub MayBePlaced : Manner → Type 0
+MayBePlaced manner.ByChoice = ⊥
+MayBePlaced _ = Unit {0}
+
+abbrev pub MayBeChosen : Manner → Type 0
+MayBeChosen manner.ByPlace = ⊥
+MayBeChosen _ = Unit {0}
+
+-- L16: the ranges lie within the bounds, no two have a value in common, and together they have all values, or `others` gives the rest
+pub data Covers (b : Bounds) (rs : List Bounds) : Bool → Type 0 where
+  all_values : (partial : Bool) → cover_of b rs ≡ cover.whole → Covers b rs partial
+  with_others : cover_of b rs ≡ cover.missing → Covers b rs true

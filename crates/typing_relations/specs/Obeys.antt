@@ -1,5 +1,5 @@
 -- Which typed expression an expression is by the rules of the language, a line a rule. -- Ada RM 4
-use Rattle.std.specs.Prelude.{◌≡◌, ℕ, ℤ, Bool, true, false, not, ◌||◌, ◌++◌, List, [], ◌∷◌, length, slice_get, Some, None}
+use Rattle.std.specs.Prelude.{◌≡◌, ◌&&◌, ℕ, suc, ℤ, pos, is_some, Bool, true, false, not, ◌||◌, ◌++◌, List, [], ◌∷◌, length, slice_get, Some, None}
 use Rattle.ada_text.specs.declared.token.Span.{Span}
 use Rattle.ada_syntax.specs.declared.expressions.BinaryOperator.{BinaryOperator}
 use Rattle.ada_syntax.specs.declared.expressions.Quantifier.{Quantifier}
@@ -19,6 +19,9 @@ use Rattle.typed_units.specs.declared.expressions.ExprNode.TheVariants as node
 use Rattle.typed_units.specs.declared.expressions.Fitted.{Fitted}
 use Rattle.typed_units.specs.declared.expressions.Indexed.{Indexed}
 use Rattle.typed_units.specs.declared.expressions.Step.TheVariants as step
+use Rattle.typed_units.specs.declared.expressions.Association.{Association}
+use Rattle.typed_units.specs.declared.operators.Bounds.{Bounds}
+use Rattle.typed_units.specs.declared.operators.Composite.TheVariants as composite
 use Rattle.typed_units.specs.declared.programs.Mode.{Mode}
 use Rattle.typed_units.specs.declared.programs.Mode.TheVariants as mode
 use Rattle.type_base.specs.Scope.{Scope}
@@ -47,7 +50,10 @@ use Rattle.typing_rules.specs.declared.prefix.Prefix.{Prefix}
 use Rattle.typing_rules.specs.declared.prefix.Prefix.TheVariants as prefix
 use Rattle.typing_rules.specs.declared.prefix.Reach.{Reach}
 use Rattle.typing_rules.specs.declared.prefix.Reach.TheVariants as reach
-use Rattle.typing_rules.specs.Aggregates.{aggregate, qualified_node}
+use Rattle.typing_rules.specs.declared.aggregates.Gives.{Gives as GivenParts}
+use Rattle.typing_rules.specs.declared.aggregates.Manner.{Manner}
+use Rattle.typing_rules.specs.declared.aggregates.Manner.TheVariants as manner
+use Rattle.typing_rules.specs.Aggregates.{all_take, components_for, first_given, gives_value, is_empty, is_only, item_value, last_number, position_range, qualified_node}
 use Rattle.typing_rules.specs.Attributes.{attributed, bounded, literal as literal_at, next_value, position, range_at}
 use Rattle.typing_rules.specs.Calls.{formal_for, is_named, passed, same_type, writable}
 use Rattle.typing_rules.specs.Conditions.{Common, branch_want, chosen, chosen_else, common_of, else_of, if_made, quantifier_of}
@@ -56,11 +62,11 @@ use Rattle.typing_rules.specs.Forms.{left_want, right_want}
 use Rattle.typing_rules.specs.Kinds.{branches_kind, range_kind}
 use Rattle.typing_rules.specs.Lookups.{Array, array_at, components_at, entity_by, entity_of, place_among, type_of, with_index}
 use Rattle.typing_rules.specs.Names.{is_checked}
-use Rattle.typing_rules.specs.Ranges.{bounds_reach, member_by, reach_in, static_range, want_or, weaker}
+use Rattle.typing_rules.specs.Ranges.{bounds_reach, member_by, reach_in, static_range, want_or, weaker, bounds_of_type, reach_bounds, subtype_reach}
 use Rattle.typing_rules.specs.Reading.{arg, args, arms, item, maybe, range, read}
 use Rattle.typing_rules.specs.Values.{component_subtype, formals_of, place_of}
 use Rattle.expression_rules.specs.Rules.{Common as CommonType, Gives, GivesOne, Is as HasKind, IsAs, Kind}
-use Rattle.typing_relations.specs.Demanded.{AnyInteger, Begins, Converts, Fits, Given, IsBranch, IsResult, Makes, OfType, Only, Tests, Valued}
+use Rattle.typing_relations.specs.Demanded.{AnyInteger, Begins, Converts, Fits, Given, IsBranch, IsResult, Makes, OfType, Only, Tests, Valued, Covers, IsStatic, MayBeChosen, MayBePlaced}
 
 -- a name so far of which nothing is known
 abbrev pub IsOpen : Prefix → Type 0
@@ -86,7 +92,7 @@ mutual
     in_parentheses : (c : Scope) (w : Want) (s : Span) (as' : tree.Args) (i : tree.Item) (u v : Seen) → Only as' i → ItemHas c w i u → IsResult (moved (c.place s.from) u) v
         → Stands c w (tree.at s (tree.group as')) (prefix.Value v)
     -- L16, L17
-    aggregate_is : (c : Scope) (w : Want) (s : Span) (as' : tree.Args) (v : Seen) → IsResult (aggregate c (c.place s.from) w (args c as')) v → Stands c w (tree.at s (tree.group as')) (prefix.Value v)
+    aggregate_is : (c : Scope) (w : Want) (s : Span) (as' : tree.Args) (v : Seen) → Aggregates c (c.place s.from) w as' v → Stands c w (tree.at s (tree.group as')) (prefix.Value v)
     -- L3, L4
     unary : (c : Scope) (w : Want) (s q : Span) (o : UnaryOperator) (a : tree.Expr) (x v : Seen) (k : Kind) → Has c (weaker c.world w) a x → GivesOne c.world x o k → HasKind v k
         → unary_of c.world (c.place s.from) (place_of c (read c a)) o x ≡ v → Stands c w (tree.at s (tree.unary q o a)) (prefix.Value v)
@@ -194,12 +200,57 @@ mutual
     qualified : (c : Scope) (w : Want) (p : Place) (k : ℕ) (s : Span) (as' : tree.Args) (x : Fitted Expr) (v : Seen) → Qualifies c k s as' x
         → Makes c.world p k (qualified_node x x.bounds (out-Expr x.value).node) v → Step c w p (prefix.Subtype k) (tree.ticked s (tree.qualified as')) (prefix.Value v)
 
+  -- an aggregate at p, of the record type or the subtype that the context gives; an array's is constrained -- L16, L17
+  pub data Aggregates : Scope → Place → Want → tree.Args → Seen → Type 0 where
+    record_of_type : (c : Scope) (p : Place) (t : ℕ) (as' : tree.Args) (cs : List Component) (xs : List (Association Expr)) (v : Seen) → components_at c.world t ≡ Some cs → RecordParts c cs [] false [] as' xs
+        → Makes c.world p t (node.Aggregate composite.Record (record { first = pos 0; last = last_number cs }) xs) v → Aggregates c p (want.Type t) as' v
+    record_of_subtype : (c : Scope) (p : Place) (k : ℕ) (as' : tree.Args) (cs : List Component) (xs : List (Association Expr)) (v : Seen) → components_at c.world k ≡ Some cs → RecordParts c cs [] false [] as' xs
+        → Makes c.world p k (node.Aggregate composite.Record (record { first = pos 0; last = last_number cs }) xs) v → Aggregates c p (want.Subtype k) as' v
+    -- each index once, where `others` or associations by choices may leave some to it
+    array_of_subtype : (c : Scope) (p : Place) (k i t : ℕ) (b : Bounds) (as' : tree.Args) (rs : List Bounds) (xs : List (Association Expr)) (partial : Bool) (v : Seen) → form_at c.world k ≡ Some (form.Array i (Some b) t)
+        → ArrayParts c (record { index = i; bounds = Some b; item = t }) b 0 manner.Either [] [] as' rs xs partial → Covers b rs partial → Makes c.world p k (node.Aggregate composite.Array b xs) v → Aggregates c p (want.Subtype k) as' v
+
+  -- L16: the associations of a record, after those done, which give these components: each once, positional before named, `others`
+  -- last; the value has the type of all components that it is given to (L8)
+  pub data RecordParts : Scope → List Component → List ℕ → Bool → List (Association Expr) → tree.Args → List (Association Expr) → Type 0 where
+    all_components : (c : Scope) (cs : List Component) (given : List ℕ) (named : Bool) (xs : List (Association Expr)) → length given ≡ length cs → RecordParts c cs given named xs tree.no_args xs
+    next_components : (c : Scope) (cs : List Component) (given : List ℕ) (named : Bool) (xs ys : List (Association Expr)) (a : tree.Arg) (as' : tree.Args) (g : GivenParts) (i : tree.Item) (u : Seen) (x : Fitted Expr)
+        → components_for c cs given named (arg c a) (args c as') ≡ Some g → Given a i → ItemHas c (want.Subtype (first_given cs g.numbers)) i u
+        → Fits c.world true (first_given cs g.numbers) (place_of c (item c i)) u x → all_take c.world cs (first_given cs g.numbers) g.numbers ≡ true
+        → RecordParts c cs (g.numbers ++ given) (named || is_some (arg c a).value) (xs ++ (gives_value c.world cs g x ∷ [])) as' ys → RecordParts c cs given named xs (tree.args a as') ys
+
+  -- L16: the associations of an array after n others, with the ranges and the values that are given so far and in the end: all
+  -- positional, or all with choices, and `others` last; each value fits the items' subtype (L8)
+  pub data ArrayParts : Scope → Array → Bounds → ℕ → Manner → List Bounds → List (Association Expr) → tree.Args → List Bounds → List (Association Expr) → Bool → Type 0 where
+    no_items : (c : Scope) (a : Array) (b : Bounds) (n : ℕ) (m : Manner) (rs : List Bounds) (xs : List (Association Expr)) → ArrayParts c a b n m rs xs tree.no_args rs xs false
+    by_place : (c : Scope) (a : Array) (b : Bounds) (n : ℕ) (m : Manner) (rs qs : List Bounds) (xs ys : List (Association Expr)) (s : Span) (i : tree.Item) (as' : tree.Args) (partial : Bool) (r : Bounds) (u : Seen) (x : Fitted Expr)
+        → MayBePlaced m → position_range b n ≡ Is r → ItemHas c (want.Subtype a.item) i u → Fits c.world true a.item (place_of c (item c i)) u x
+        → ArrayParts c a b (suc n) manner.ByPlace (rs ++ (r ∷ [])) (xs ++ (item_value (r ∷ []) false x ∷ [])) as' qs ys partial
+        → ArrayParts c a b n m rs xs (tree.args (tree.arg s (tree.part i) tree.no_value) as') qs ys partial
+    -- a range without values is the only choice
+    by_choice : (c : Scope) (a : Array) (b : Bounds) (n : ℕ) (m : Manner) (rs qs : List Bounds) (xs ys : List (Association Expr)) (s : Span) (h : tree.ArgChoice) (i : tree.Item) (as' : tree.Args) (partial : Bool) (r : Bounds) (u : Seen) (x : Fitted Expr)
+        → MayBeChosen m → StaticChoice c (type_of c.world a.index) h r → (is_empty r && not (is_only n (args c as'))) ≡ false → ItemHas c (want.Subtype a.item) i u → Fits c.world true a.item (place_of c (item c i)) u x
+        → ArrayParts c a b (suc n) manner.ByChoice (rs ++ (r ∷ [])) (xs ++ (item_value (r ∷ []) false x ∷ [])) as' qs ys partial
+        → ArrayParts c a b n m rs xs (tree.args (tree.arg s h (tree.value i)) as') qs ys partial
+    by_others : (c : Scope) (a : Array) (b : Bounds) (n : ℕ) (m : Manner) (rs : List Bounds) (xs : List (Association Expr)) (s : Span) (i : tree.Item) (u : Seen) (x : Fitted Expr)
+        → ItemHas c (want.Subtype a.item) i u → Fits c.world true a.item (place_of c (item c i)) u x
+        → ArrayParts c a b n m rs xs (tree.args (tree.arg s tree.other_parts (tree.value i)) tree.no_args) rs (xs ++ (item_value [] true x ∷ [])) true
+
+  -- L16: a static choice of type t: a value, a subtype, `'Range`, or two bounds
+  pub data StaticChoice : Scope → ℕ → tree.ArgChoice → Bounds → Type 0 where
+    one_value : (c : Scope) (t : ℕ) (i : tree.Item) (u : Seen) (n : ℤ) → ItemHas c (want.Type t) i u → IsStatic c.world t (place_of c (item c i)) u n → StaticChoice c t (tree.part i) (record { first = n; last = n })
+    its_subtype : (c : Scope) (t : ℕ) (i : tree.Item) (k : ℕ) (b : Bounds) → ItemStands c (want.Type t) i (prefix.Subtype k)
+        → reach_bounds c code.L16 t (place_of c (item c i)) (subtype_reach code.L16 (place_of c (item c i)) k (form_at c.world k)) ≡ Is b → StaticChoice c t (tree.part i) b
+    its_range : (c : Scope) (t : ℕ) (i : tree.Item) (r : Between) (b : Bounds) → ItemStands c (want.Type t) i (prefix.Range r) → bounds_of_type c code.L16 t (place_of c (item c i)) r ≡ Is b → StaticChoice c t (tree.part i) b
+    two_values : (c : Scope) (t : ℕ) (l h : tree.Expr) (u v : Seen) (m n : ℤ) → Has c (want.Type t) l u → Has c (want.Type t) h v → IsStatic c.world t (place_of c (read c l)) u m
+        → IsStatic c.world t (place_of c (read c h)) v n → StaticChoice c t (tree.parts l h) (record { first = m; last = n })
+
   -- the operand of a qualification, an expression or an aggregate
   pub data Qualifies : Scope → ℕ → Span → tree.Args → Fitted Expr → Type 0 where
     by_value : (c : Scope) (k : ℕ) (s : Span) (as' : tree.Args) (i : tree.Item) (u : Seen) (x : Fitted Expr)
         → Only as' i → ItemHas c (want.Subtype k) i u → Fits c.world false k (place_of c (item c i)) u x → Qualifies c k s as' x
     by_aggregate : (c : Scope) (k : ℕ) (s : Span) (as' : tree.Args) (u : Seen) (x : Fitted Expr)
-        → IsResult (aggregate c (c.place s.from) (want.Subtype k) (args c as')) u → Fits c.world false k (c.place s.from) u x → Qualifies c k s as' x
+        → Aggregates c (c.place s.from) (want.Subtype k) as' u → Fits c.world false k (c.place s.from) u x → Qualifies c k s as' x
 
   -- what such an attribute with its tick at t gives for an argument; a static value lies in the base range (L29)
   pub data MapsTo : Scope → Place → Place → Mapping → ℕ → tree.Item → Seen → Type 0 where
@@ -207,7 +258,7 @@ mutual
         → OfType c.world j (place_of c (item c i)) u x → IsResult (next_value c p true t k (Typed j x)) v → MapsTo c p t mapping.Succ k i v
     pred : (c : Scope) (p t : Place) (k j : ℕ) (i : tree.Item) (u v : Seen) (x : Expr) → ItemHas c (want.Subtype (type_of c.world k)) i u → type_at c.world k ≡ Some j
         → OfType c.world j (place_of c (item c i)) u x → IsResult (next_value c p false t k (Typed j x)) v → MapsTo c p t mapping.Pred k i v
-    pos : (c : Scope) (p t : Place) (k j : ℕ) (i : tree.Item) (u v : Seen) (x : Expr) → ItemHas c (want.Subtype (type_of c.world k)) i u → type_at c.world k ≡ Some j
+    position_of : (c : Scope) (p t : Place) (k j : ℕ) (i : tree.Item) (u v : Seen) (x : Expr) → ItemHas c (want.Subtype (type_of c.world k)) i u → type_at c.world k ≡ Some j
         → OfType c.world j (place_of c (item c i)) u x → IsResult (position c p (Typed j x)) v → MapsTo c p t mapping.Pos k i v
     val : (c : Scope) (p t : Place) (k : ℕ) (i : tree.Item) (u v : Seen) → ItemHas c want.Free i u → AnyInteger c.world u
         → IsResult (literal_at c p (type_of c.world k) (place_of c (item c i)) u) v → MapsTo c p t mapping.Val k i v
