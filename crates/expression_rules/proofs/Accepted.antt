@@ -65,7 +65,7 @@ operand_same w d r p (Typed t x) k h = typed_same w d r p t x (form_at w (subtyp
 
 -- ---- two operands
 
-abbrev Are : Agreed → Kind → Type 0
+abbrev pub Are : Agreed → Kind → Type 0
 Are (agreed.Refused f) k = ⊥
 Are agreed.Unknown k = ⊥
 Are (agreed.Numbers m n) rule.universal = Unit {0}
@@ -146,17 +146,17 @@ pair w r p q (Typed t x) (Number n) k h =
 pair w r p q (Typed t x) (Typed u y) k h = same_pair w r q t u x y (t == u) refl k h
 
 -- the operands of an operator that are accepted together: unchanged, as demanded, and of one type
-record Operands (w : World) (d : Demand) (r : Code) (p q : Place) (x y : Seen) (k : Kind) : Type 0 where
-  left : Kind
-  right : Kind
-  is_left : Is x left
-  is_right : Is y right
-  met_left : IsAs w d x
-  met_right : IsAs w d y
-  common : Common w left right k
-  same : agree w r p q (operand w d r p x) (operand w d r q y) ≡ agree w r p q x y
+pub record Operands (w : World) (d : Demand) (r : Code) (p q : Place) (x y : Seen) (k : Kind) : Type 0 where
+  pub left : Kind
+  pub right : Kind
+  pub is_left : Is x left
+  pub is_right : Is y right
+  pub met_left : IsAs w d x
+  pub met_right : IsAs w d y
+  pub common : Common w left right k
+  pub same : agree w r p q (operand w d r p x) (operand w d r q y) ≡ agree w r p q x y
 
-accepted : (w : World) (d : Demand) (r : Code) (p q : Place) (x y : Seen) (k : Kind) → Are (agree w r p q (operand w d r p x) (operand w d r q y)) k → Operands w d r p q x y k
+pub accepted : (w : World) (d : Demand) (r : Code) (p q : Place) (x y : Seen) (k : Kind) → Are (agree w r p q (operand w d r p x) (operand w d r q y)) k → Operands w d r p q x y k
 accepted w d r p q x y k h =
     let z = pair w r p q (operand w d r p x) (operand w d r q y) k h in
     let a = operand_same w d r p x z.left z.is_left in

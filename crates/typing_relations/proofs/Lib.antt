@@ -1,0 +1,7 @@
+pub mod Accepting
+pub mod Values
+pub mod Parts
+pub mod Aggregated
+pub mod Forms
+pub mod Names
+pub mod Trees
