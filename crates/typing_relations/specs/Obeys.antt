@@ -1,5 +1,5 @@
 -- Which typed expression an expression is by the rules of the language, a line a rule. -- Ada RM 4
-use Rattle.std.specs.Prelude.{◌≡◌, ◌&&◌, ℕ, suc, ℤ, pos, is_some, Bool, true, false, not, ◌||◌, ◌++◌, List, [], ◌∷◌, length, slice_get, Some, None}
+use Rattle.std.specs.Prelude.{◌≡◌, ◌&&◌, ℕ, suc, ℤ, pos, is_some, Bool, true, false, not, ◌||◌, ◌++◌, List, [], ◌∷◌, length, slice_get, Option, Some, None}
 use Rattle.ada_text.specs.declared.token.Span.{Span}
 use Rattle.ada_syntax.specs.declared.expressions.BinaryOperator.{BinaryOperator}
 use Rattle.ada_syntax.specs.declared.expressions.Quantifier.{Quantifier}
@@ -9,6 +9,9 @@ use Rattle.ada_values.specs.declared.scalars.Scalar.{Scalar}
 use Rattle.front_codes.specs.declared.codes.Code.{Code}
 use Rattle.front_codes.specs.declared.codes.Code.TheVariants as code
 use Rattle.name_library.specs.declared.links.Link.{Link}
+use Rattle.name_numbers.specs.Numbers.{word_of}
+use Rattle.name_numbers.specs.declared.words.Word.{Word}
+use Rattle.name_numbers.specs.declared.words.Word.TheVariants as word
 use Rattle.syntax_view.specs.Trees as tree
 use Rattle.typed_units.specs.declared.expressions.Actual.{Actual}
 use Rattle.typed_units.specs.declared.expressions.Actual.TheVariants as actual
@@ -26,6 +29,7 @@ use Rattle.typed_units.specs.declared.programs.Mode.{Mode}
 use Rattle.typed_units.specs.declared.programs.Mode.TheVariants as mode
 use Rattle.type_base.specs.Scope.{Scope}
 use Rattle.type_base.specs.declared.seen.Demand.TheVariants as demand
+use Rattle.type_base.specs.declared.seen.Moment.TheVariants as moment
 use Rattle.type_base.specs.declared.seen.Seen.{Seen}
 use Rattle.type_base.specs.declared.seen.Seen.TheVariants.{Unknown, Number, Typed}
 use Rattle.type_base.specs.declared.seen.Want.{Want}
@@ -54,7 +58,7 @@ use Rattle.typing_rules.specs.declared.aggregates.Gives.{Gives as GivenParts}
 use Rattle.typing_rules.specs.declared.aggregates.Manner.{Manner}
 use Rattle.typing_rules.specs.declared.aggregates.Manner.TheVariants as manner
 use Rattle.typing_rules.specs.Aggregates.{all_take, components_for, first_given, gives_value, is_empty, is_only, item_value, last_number, position_range, qualified_node}
-use Rattle.typing_rules.specs.Attributes.{attributed, bounded, literal as literal_at, next_value, position, range_at}
+use Rattle.typing_rules.specs.Attributes.{bound, bounded, entry_node, is_mapped, length_at, literal as literal_at, next_value, old_node, position, range_at}
 use Rattle.typing_rules.specs.Calls.{formal_for, is_named, passed, same_type, writable}
 use Rattle.typing_rules.specs.Conditions.{Common, branch_want, chosen, chosen_else, common_of, else_of, if_made, quantifier_of}
 use Rattle.typing_rules.specs.Fits.{takes}
@@ -66,7 +70,7 @@ use Rattle.typing_rules.specs.Ranges.{bounds_reach, member_by, reach_in, static_
 use Rattle.typing_rules.specs.Reading.{arg, args, arms, item, maybe, range, read}
 use Rattle.typing_rules.specs.Values.{component_subtype, formals_of, place_of}
 use Rattle.expression_rules.specs.Rules.{Common as CommonType, Gives, GivesOne, Is as HasKind, IsAs, Kind}
-use Rattle.typing_relations.specs.Demanded.{AnyInteger, Begins, Converts, Fits, Given, IsBranch, IsResult, Makes, OfType, Only, Tests, Valued, Covers, IsStatic, MayBeChosen, MayBePlaced}
+use Rattle.typing_relations.specs.Demanded.{AnyInteger, Begins, Converts, Fits, Given, IsBranch, IsResult, Makes, OfType, Only, Tests, Valued, Covers, IsStatic, MayBeChosen, MayBePlaced, HasBounds, IsArray, IsMapping, WasThere}
 
 -- a name so far of which nothing is known
 abbrev pub IsOpen : Prefix → Type 0
@@ -193,9 +197,26 @@ mutual
     -- L10, L11: the argument of `'Succ`, `'Pred` and `'Pos`, of the subtype's type, and of `'Val`, of an integer type
     mapped_argument : (c : Scope) (w : Want) (p t : Place) (m : Mapping) (k : ℕ) (as' : tree.Args) (i : tree.Item) (v : Seen) → Only as' i → MapsTo c p t m k i v
         → Step c w p (prefix.Mapping m t k) (tree.applied as') (prefix.Value v)
-    -- L19
-    attribute : (c : Scope) (w : Want) (p : Place) (f g : Prefix) (s t : Span) → attributed c w p f s.from t.from ≡ g → Step c w p f (tree.ticked s (tree.attribute t)) g
-    range_attribute : (c : Scope) (w : Want) (p : Place) (f g : Prefix) (s : Span) → range_at c p (bounded c p f) ≡ g → Step c w p f (tree.ticked s tree.range_attribute) g
+    -- L19: the bounds of a scalar subtype or an array
+    first_attribute : (c : Scope) (w : Want) (p : Place) (f : Prefix) (s t : Span) (v : Seen) → word_of (c.name t.from) ≡ Some word.First → HasBounds c p f → IsResult (bound c p true f) v
+        → Step c w p f (tree.ticked s (tree.attribute t)) (prefix.Value v)
+    last_attribute : (c : Scope) (w : Want) (p : Place) (f : Prefix) (s t : Span) (v : Seen) → word_of (c.name t.from) ≡ Some word.Last → HasBounds c p f → IsResult (bound c p false f) v
+        → Step c w p f (tree.ticked s (tree.attribute t)) (prefix.Value v)
+    -- the length and the range of an array
+    length_attribute : (c : Scope) (w : Want) (p : Place) (f : Prefix) (s t : Span) (v : Seen) → word_of (c.name t.from) ≡ Some word.Length → IsArray c p f → IsResult (length_at c w p (c.place s.from) (bounded c p f)) v
+        → Step c w p f (tree.ticked s (tree.attribute t)) (prefix.Value v)
+    range_attribute : (c : Scope) (w : Want) (p : Place) (f g : Prefix) (s : Span) → IsArray c p f → range_at c p (bounded c p f) ≡ g → Step c w p f (tree.ticked s tree.range_attribute) g
+    -- `'Succ` and `'Pred` of enumeration and signed subtypes, `'Pos` and `'Val` of enumerations
+    mapping_attribute : (c : Scope) (w : Want) (p : Place) (k : ℕ) (s t : Span) (u : Word) (m : Mapping) (d : Discrete) (r : Scalar) → word_of (c.name t.from) ≡ Some u → IsMapping u m
+        → form_at c.world k ≡ Some (form.Number d r) → is_mapped m d ≡ true → Step c w p (prefix.Subtype k) (tree.ticked s (tree.attribute t)) (prefix.Mapping m (c.place s.from) k)
+    -- `'Old` in a postcondition, `'Loop_Entry` in a pragma inside the loop
+    old_attribute : (c : Scope) (w : Want) (p : Place) (f : Prefix) (s t : Span) (v : Seen) → word_of (c.name t.from) ≡ Some word.Old → c.moment ≡ moment.InPost → WasThere c p (old_node p) f v
+        → Step c w p f (tree.ticked s (tree.attribute t)) (prefix.Value v)
+    entry_attribute : (c : Scope) (w : Want) (p : Place) (f : Prefix) (s t : Span) (l : ℕ) (m : Option ℕ) (v : Seen) → word_of (c.name t.from) ≡ Some word.LoopEntry → c.moment ≡ moment.InLoop l m
+        → WasThere c p (entry_node p l m) f v → Step c w p f (tree.ticked s (tree.attribute t)) (prefix.Value v)
+    -- `'Result` of a function in its own postcondition
+    result_attribute : (c : Scope) (w : Want) (p : Place) (q k : ℕ) (r : Routine) (s t : Span) (v : Seen) → word_of (c.name t.from) ≡ Some word.Result → c.moment ≡ moment.InPost → c.own ≡ Some q
+        → routine_at c.world q ≡ Some r → r.result ≡ Some k → Makes c.world p k (node.Result p) v → Step c w p (prefix.Routine q) (tree.ticked s (tree.attribute t)) (prefix.Value v)
     -- L18: a value of the subtype's type, and of a constrained array subtype
     qualified : (c : Scope) (w : Want) (p : Place) (k : ℕ) (s : Span) (as' : tree.Args) (x : Fitted Expr) (v : Seen) → Qualifies c k s as' x
         → Makes c.world p k (qualified_node x x.bounds (out-Expr x.value).node) v → Step c w p (prefix.Subtype k) (tree.ticked s (tree.qualified as')) (prefix.Value v)
