@@ -342,7 +342,7 @@ follows c w p f (tree.suffixes s ss) h =
     let g = suffix_prefix c w p f (suffix c s) in
     let k = suffixes_prefix c w p g (suffixes c ss) in
     from_there g k (Step c w p f s) (Follows c w p g ss) (Follows c w p f (tree.suffixes s ss)) (suffix_step c w p f s h.0) (follows c w p g ss h.1) (all_refused c w p g (suffixes c ss))
-    (λ j b z. rule.then c w p f g j s ss b z) (λ o j z. rule.unknown_before c w p f g j s ss o z)
+    (λ j b z. rule.then c w p f g j s ss b z) (λ o j z. rule.unknown_before c w p f g j s ss refl o z)
 
 pub name_follows : (c : Scope) (w : Want) (s t i : Span) (ss : tree.Suffixes) → SuffixesGood c ss
     → Allows (suffixes_prefix c w (c.place s.from) (entity_prefix c (c.place s.from) (entity_of c i.from)) (suffixes c ss)) (rule.Stands c w (tree.at s (tree.name (tree.named t i ss))))
@@ -351,4 +351,4 @@ name_follows c w s t i ss h =
     let g = entity_prefix c p (entity_of c i.from) in
     let k = suffixes_prefix c w p g (suffixes c ss) in
     from_there g k (Begins c p (entity_of c i.from)) (Follows c w p g ss) (rule.Stands c w (tree.at s (tree.name (tree.named t i ss)))) (begins c p (entity_of c i.from)) (follows c w p g ss h) (all_refused c w p g (suffixes c ss))
-    (λ j b z. rule.name c w s t i ss g j b z) (λ o j z. rule.name_after_unknown c w s t i ss g j o z)
+    (λ j b z. rule.name c w s t i ss g j b z) (λ o j z. rule.name_after_unknown c w s t i ss g j refl o z)
