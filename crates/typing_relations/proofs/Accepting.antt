@@ -224,6 +224,28 @@ allows_all P (prefix.Value seen.Unknown) h = tt
 allows_all P (prefix.Value (seen.Number n)) h = h
 allows_all P (prefix.Value (seen.Typed t x)) h = h
 
+pub allows_always : (P : Type 0) (f : Prefix) → P → Allows f (λ g. P)
+allows_always P f h = allows_all (λ g. P) f h
+
+pub allows_itself : (f : Prefix) → Allows f (λ g. f ≡ g)
+allows_itself f = allows_all (λ g. f ≡ g) f refl
+
+pub allows_both : (P Q R : Prefix → Type 0) → ((f : Prefix) → P f → Q f → R f) → (f : Prefix) → Allows f P → Allows f Q → Allows f R
+allows_both P Q R k prefix.Package h i = k prefix.Package h i
+allows_both P Q R k (prefix.Subtype j) h i = k (prefix.Subtype j) h i
+allows_both P Q R k (prefix.Routine q) h i = k (prefix.Routine q) h i
+allows_both P Q R k (prefix.Called q (found.Refused g)) h i = tt
+allows_both P Q R k (prefix.Called q found.Unknown) h i = tt
+allows_both P Q R k (prefix.Called q (found.Is xs)) h i = k (prefix.Called q (found.Is xs)) h i
+allows_both P Q R k (prefix.Mapping m t j) h i = k (prefix.Mapping m t j) h i
+allows_both P Q R k (prefix.Range b) h i = k (prefix.Range b) h i
+allows_both P Q R k (prefix.Constant t x) h i = k (prefix.Constant t x) h i
+allows_both P Q R k (prefix.Part g) h i = k (prefix.Part g) h i
+allows_both P Q R k (prefix.Value (seen.Refused g)) h i = tt
+allows_both P Q R k (prefix.Value seen.Unknown) h i = tt
+allows_both P Q R k (prefix.Value (seen.Number n)) h i = k (prefix.Value (seen.Number n)) h i
+allows_both P Q R k (prefix.Value (seen.Typed t x)) h i = k (prefix.Value (seen.Typed t x)) h i
+
 -- ---- of ranges
 
 pub reached_all : (P : Reach → Type 0) (u : Reach) → P u → Reached u P

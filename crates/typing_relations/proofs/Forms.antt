@@ -1,5 +1,5 @@
 -- Operators, ranges, membership tests, if-expressions and quantified expressions.
-use Rattle.std.proofs.Common.{◌≡◌, refl, sym, ◌∙◌, ap, subst, ℕ, ℤ, Bool, true, ◌==◌, List, [], ◌∷◌, ◌++◌, Option, Some, None, arith}
+use Rattle.std.proofs.Common.{◌≡◌, refl, sym, ◌∙◌, ap, subst, ℕ, ℤ, Bool, true, false, ◌==◌, List, [], ◌∷◌, ◌++◌, Option, Some, None, arith}
 use Rattle.std.proofs.lemmas.Bool.Decides.{nat_tests}
 use Rattle.std.specs.Prelude.{not, ◌&&◌}
 use Rattle.ada_text.specs.declared.token.Span.{Span}
@@ -28,7 +28,7 @@ use Rattle.type_base.specs.declared.world.World.{World}
 use Rattle.type_base.specs.Demands.{agree, broken, is_one, operand, placed_number, subtype_of}
 use Rattle.type_base.specs.Lookups.{form_at}
 use Rattle.type_base.specs.Operators.{family_of, joined, unary_of}
-use Rattle.type_base.specs.Results.{truth_at}
+use Rattle.type_base.specs.Results.{truth_at, truth_in}
 use Rattle.type_base.specs.Standard.{boolean, integer_base}
 use Rattle.typing_rules.specs.declared.prefix.Between.{Between}
 use Rattle.typing_rules.specs.declared.prefix.Found.{Found}
@@ -37,7 +37,7 @@ use Rattle.typing_rules.specs.declared.prefix.Prefix.{Prefix}
 use Rattle.typing_rules.specs.declared.prefix.Prefix.TheVariants as prefix
 use Rattle.typing_rules.specs.declared.prefix.Reach.{Reach}
 use Rattle.typing_rules.specs.declared.prefix.Reach.TheVariants as reach
-use Rattle.typing_rules.specs.Conditions.{Common, arm_of, arms_onto, branch, branch_by, chosen, chosen_else, condition, else_of, if_by, if_made, index_subtype, quantified_seen, quantifier_of, Chooser, Counting, chooser, counting}
+use Rattle.typing_rules.specs.Conditions.{Common, arm_of, arms_onto, branch, branch_by, chosen, chosen_else, chosen_number, number_seen, pick, truth_found, condition, else_of, if_by, if_made, index_subtype, quantified_seen, quantifier_of, Chooser, Counting, chooser, counting}
 use Rattle.typing_rules.specs.Fits.{both}
 use Rattle.typing_rules.specs.Forms.{left_want, right_want}
 use Rattle.typing_rules.specs.Kinds.{range_kind}
@@ -53,7 +53,7 @@ use Rattle.expression_rules.proofs.Accepted.{Are, Operands, accepted, binary_giv
 use Rattle.typing_relations.specs.Demanded as demanded
 use Rattle.typing_relations.specs.Demanded.{IsBranch, IsResult, TakesNumber, Tests, Valued}
 use Rattle.typing_relations.specs.Obeys as rule
-use Rattle.typing_relations.specs.Obeys.{Arms, Branch, Condition, Else, Has, ItemStands, Reaches, Stands, branches_want, common_type}
+use Rattle.typing_relations.specs.Obeys.{Arms, Branch, Condition, Else, Has, ItemStands, Picks, Reaches, Stands, branches_want, common_type}
 use Rattle.typing_relations.proofs.Accepting.{Accepts, Allows, BothAre, Finds, Kinded, Reached, accepted_as, accepts_always, accepts_both, accepts_map, beside_accepts, both_are, both_finds, finds_always, finds_itself, finds_map, found_as, if_accepts, if_finds, kinded, result, result_with, then_accepts}
 use Rattle.typing_relations.proofs.Parts.{ExprGood, expr_accepts}
 use Rattle.typing_relations.proofs.Values.{both_true, of_valued, operand_accepts, placed_accepts}
@@ -335,14 +335,73 @@ else_finds : (c : Scope) (p : Place) (w : Want) (k : Common) (e : tree.MaybeExpr
 else_finds c p w k tree.no_expr h = rule.without c p w k _ refl
 else_finds c p w k (tree.an_expr e) h = finds_map (Branch c w k e) (Else c p w k (tree.an_expr e)) (λ x i. rule.otherwise c p w k e x i) (branch c k w (read c e)) (branch_finds c w k e h)
 
+-- the number that static conditions choose
+
+abbrev IfSome : {A : Type 0} → Option A → (A → Type 0) → Type 0
+IfSome None P = Unit {0}
+IfSome (Some a) P = P a
+
+pick_is : (A : Bool → Type 0) (P Q R : ℤ → Type 0) (b : Option Bool) (x y : Option ℤ) → IfSome b A → IfSome x P → IfSome y Q
+    → ((m n : ℤ) → A true → P m → Q n → R m) → ((m n : ℤ) → A false → P m → Q n → R n) → IfSome (pick b x y) R
+pick_is A P Q R None x y h i j k l = tt
+pick_is A P Q R (Some true) None y h i j k l = tt
+pick_is A P Q R (Some false) None y h i j k l = tt
+pick_is A P Q R (Some true) (Some m) None h i j k l = tt
+pick_is A P Q R (Some false) (Some m) None h i j k l = tt
+pick_is A P Q R (Some true) (Some m) (Some n) h i j k l = k m n h i j
+pick_is A P Q R (Some false) (Some m) (Some n) h i j k l = l m n h i j
+
+number_is : (P : Seen → Type 0) (s : Seen) → Accepts s P → IfSome (number_seen s) (λ n. P (seen.Number n))
+number_is P (seen.Refused f) h = tt
+number_is P seen.Unknown h = tt
+number_is P (seen.Number n) h = h
+number_is P (seen.Typed t x) h = tt
+
+-- a condition that has a truth value
+record Holds (c : Scope) (i : tree.Expr) (b : Bool) : Type 0 where
+  value : Expr
+  condition : Condition c i value
+  truth : truth_in value ≡ Some b
+
+truth_known : (c : Scope) (i : tree.Expr) (x : Expr) (m : Option Bool) → truth_in x ≡ m → Condition c i x → IfSome m (Holds c i)
+truth_known c i x None e h = tt
+truth_known c i x (Some b) e h = record { value = x; condition = h; truth = e }
+
+truth_is : (c : Scope) (i : tree.Expr) (x : Found Expr) → Finds x (Condition c i) → IfSome (truth_found x) (Holds c i)
+truth_is c i (found.Refused f) h = tt
+truth_is c i found.Unknown h = tt
+truth_is c i (found.Is x) h = truth_known c i x (truth_in x) refl h
+
+number_picked : (c : Scope) (w : Want) (e : tree.Expr) (m : Option ℤ) → IfSome m (λ n. Has c w e (seen.Number n)) → IfSome m (Picks c w tree.no_arms e)
+number_picked c w e None h = tt
+number_picked c w e (Some n) h = rule.picks_else c w e n h
+
+picks : (c : Scope) (w : Want) (as' : tree.Arms) (e : tree.Expr) → ArmsGood c as' → ExprGood c e → IfSome (chosen_number c w (arms c as') (read c e)) (Picks c w as' e)
+picks c w tree.no_arms e h j = number_picked c w e (number_seen (seen_of c (read c e) w)) (number_is (Has c w e) (seen_of c (read c e) w) (expr_accepts c e w j))
+picks c w (tree.arm i g as') e h j =
+    let x = condition c code.L9 (read c i) in
+    pick_is (Holds c i) (λ n. Has c w g (seen.Number n)) (Picks c w as' e) (Picks c w (tree.arm i g as') e) (truth_found x) (number_seen (seen_of c (read c g) w)) (chosen_number c w (arms c as') (read c e))
+    (truth_is c i x (condition_finds c c code.L9 (read c i) i (expr_accepts c i (want.Type boolean) h.0.0) refl)) (number_is (Has c w g) (seen_of c (read c g) w) (expr_accepts c g w h.0.1)) (picks c w as' e h.1 j)
+    (λ m n a y z. rule.picks_first c w i g as' e a.value m n a.condition a.truth y z) (λ m n a y z. rule.picks_later c w i g as' e a.value m n a.condition a.truth y z)
+
 -- the parts of an if-expression
 record PartsAre (c : Scope) (p : Place) (w : Want) (k : Common) (as' : tree.Arms) (e : tree.MaybeExpr) (z : Chooser) : Type 0 where
   arms : Arms c w k [] as' z.arms
   otherwise : Else c p w k e z.otherwise
 
+abbrev IsNone : Option ℤ → Type 0
+IsNone None = Unit {0}
+IsNone (Some n) = ⊥
+
+number_stands : (c : Scope) (w : Want) (s : Span) (as' : tree.Arms) (e : tree.MaybeExpr) (n : ℤ) → chosen_else c (branches_want c w as' e) (arms c as') (maybe c e) ≡ Some n → ArmsGood c as' → MaybeGood c e
+    → ItemStands c w (tree.item s (tree.choose as' e)) (prefix.Value (seen.Number n))
+number_stands c w s as' tree.no_expr n i h j = absurd (subst IsNone i tt)
+number_stands c w s as' (tree.an_expr e) n i h j =
+    let b = branches_want c w as' (tree.an_expr e) in rule.chosen_number c w s as' e n (subst (λ (m : Option ℤ). IfSome m (Picks c b as' e)) i (picks c b as' e h j))
+
 if_by_stands : (c : Scope) (w : Want) (s : Span) (as' : tree.Arms) (e : tree.MaybeExpr) (m : Option ℤ) → chosen_else c (branches_want c w as' e) (arms c as') (maybe c e) ≡ m → ArmsGood c as' → MaybeGood c e
     → Accepts (if_by c (c.place s.from) (branches_want c w as' e) (arms c as') (maybe c e) m) (λ v. ItemStands c w (tree.item s (tree.choose as' e)) (prefix.Value v))
-if_by_stands c w s as' e (Some n) i h j = rule.chosen_number c w s as' e n i
+if_by_stands c w s as' e (Some n) i h j = number_stands c w s as' e n i h j
 if_by_stands c w s as' e None i h j =
     let p = c.place s.from in
     let b = branches_want c w as' e in

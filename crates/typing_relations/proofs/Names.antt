@@ -29,7 +29,7 @@ use Rattle.typing_rules.specs.declared.prefix.Part.{Part}
 use Rattle.typing_rules.specs.declared.prefix.Prefix.{Prefix}
 use Rattle.typing_rules.specs.declared.prefix.Prefix.TheVariants as prefix
 use Rattle.typing_rules.specs.Aggregates.{no_subtype, qualification}
-use Rattle.typing_rules.specs.Attributes.{attribute_by, attributed, bounded, entry_at, left_out, old_at, range_at}
+use Rattle.typing_rules.specs.Attributes.{attribute_by, entry_at, left_out, old_at}
 use Rattle.typing_rules.specs.Calls.{arguments}
 use Rattle.typing_rules.specs.Forms.{application, suffix_prefix, suffixes_prefix}
 use Rattle.typing_rules.specs.Lookups.{Array, array_at, components_at, entity_by, entity_of, place_among, seen_as}
@@ -44,6 +44,7 @@ use Rattle.typing_relations.specs.Obeys as rule
 use Rattle.typing_relations.specs.Obeys.{Arguments, Follows, Index, Step}
 use Rattle.typing_relations.proofs.Accepting.{Accepts, Allows, Finds, accepts_map, allows_all, allows_map, finds_map, makes_accepts, then_accepts}
 use Rattle.typing_relations.proofs.Parts.{ArgsGood, arguments_finds, conversion_step, index_finds, mapped_step}
+use Rattle.typing_relations.proofs.Attributed.{attribute_step, range_step}
 use Rattle.typing_relations.proofs.Aggregated.{qualified_step, unknown_accepts}
 use Rattle.typing_relations.proofs.Values.{begins, valued}
 
@@ -202,8 +203,8 @@ qualification_step c w p (prefix.Part g) s as' h = let f = prefix.Part g in unqu
 qualification_step c w p (prefix.Value u) s as' h = let f = prefix.Value u in unqualified (λ v. Step c w p f (tree.ticked s (tree.qualified as')) (prefix.Value v)) p (value_of c p f)
 
 tick_step : (c : Scope) (w : Want) (p : Place) (f : Prefix) (s : Span) (a : tree.Attribute) → AttributeGood c a → Allows (suffix_prefix c w p f (tick c s.from a)) (Step c w p f (tree.ticked s a))
-tick_step c w p f s (tree.attribute t) h = let g = attributed c w p f s.from t.from in allows_all (Step c w p f (tree.ticked s (tree.attribute t))) g (rule.attribute c w p f g s t refl)
-tick_step c w p f s tree.range_attribute h = let g = range_at c p (bounded c p f) in allows_all (Step c w p f (tree.ticked s tree.range_attribute)) g (rule.range_attribute c w p f g s refl)
+tick_step c w p f s (tree.attribute t) h = attribute_step c w p f s t
+tick_step c w p f s tree.range_attribute h = range_step c w p f s
 tick_step c w p f s (tree.qualified as') h = qualification_step c w p f s as' h
 
 pub suffix_step : (c : Scope) (w : Want) (p : Place) (f : Prefix) (s : tree.Suffix) → SuffixGood c s → Allows (suffix_prefix c w p f (suffix c s)) (Step c w p f s)
@@ -341,7 +342,7 @@ follows c w p f (tree.suffixes s ss) h =
     let g = suffix_prefix c w p f (suffix c s) in
     let k = suffixes_prefix c w p g (suffixes c ss) in
     from_there g k (Step c w p f s) (Follows c w p g ss) (Follows c w p f (tree.suffixes s ss)) (suffix_step c w p f s h.0) (follows c w p g ss h.1) (all_refused c w p g (suffixes c ss))
-    (λ j b z. rule.then c w p f g j s ss b z) (λ o j z. rule.unknown_before c w p f g j s ss o z)
+    (λ j b z. rule.then c w p f g j s ss b z) (λ o j z. rule.unknown_before c w p f g j s ss refl o z)
 
 pub name_follows : (c : Scope) (w : Want) (s t i : Span) (ss : tree.Suffixes) → SuffixesGood c ss
     → Allows (suffixes_prefix c w (c.place s.from) (entity_prefix c (c.place s.from) (entity_of c i.from)) (suffixes c ss)) (rule.Stands c w (tree.at s (tree.name (tree.named t i ss))))
@@ -350,4 +351,4 @@ name_follows c w s t i ss h =
     let g = entity_prefix c p (entity_of c i.from) in
     let k = suffixes_prefix c w p g (suffixes c ss) in
     from_there g k (Begins c p (entity_of c i.from)) (Follows c w p g ss) (rule.Stands c w (tree.at s (tree.name (tree.named t i ss)))) (begins c p (entity_of c i.from)) (follows c w p g ss h) (all_refused c w p g (suffixes c ss))
-    (λ j b z. rule.name c w s t i ss g j b z) (λ o j z. rule.name_after_unknown c w s t i ss g j o z)
+    (λ j b z. rule.name c w s t i ss g j b z) (λ o j z. rule.name_after_unknown c w s t i ss g j refl o z)

@@ -1,11 +1,13 @@
 -- What rules demand of parts that are accepted, and what these give.
-use Rattle.std.specs.Prelude.{◌≡◌, ℕ, ℤ, Bool, true, List, [], Some}
+use Rattle.std.specs.Prelude.{◌≡◌, ℕ, ℤ, Bool, true, List, [], Option, Some, None}
 use Rattle.ada_values.specs.Scalars.{in_base}
 use Rattle.ada_values.specs.declared.place.Place.{Place}
 use Rattle.ada_values.specs.declared.scalars.Scalar.{Scalar}
 use Rattle.ada_values.specs.declared.values.Value.{Value}
 use Rattle.ada_values.specs.declared.values.Value.TheVariants as value
 use Rattle.front_codes.specs.declared.codes.Code.TheVariants as code
+use Rattle.name_numbers.specs.declared.words.Word.{Word}
+use Rattle.name_numbers.specs.declared.words.Word.TheVariants as word
 use Rattle.syntax_view.specs.Trees as tree
 use Rattle.ada_text.specs.declared.token.Span.{Span}
 use Rattle.typed_units.specs.declared.expressions.Expr.{Expr, out-Expr}
@@ -28,6 +30,8 @@ use Rattle.type_base.specs.Demands.{fitted, is_one, is_whole, made, subtype_of}
 use Rattle.type_base.specs.Results.{number_in}
 use Rattle.type_base.specs.Lookups.{constant_at, form_at, routine_at, type_at}
 use Rattle.typing_rules.specs.declared.prefix.Between.{Between}
+use Rattle.typing_rules.specs.declared.prefix.Mapping.{Mapping}
+use Rattle.typing_rules.specs.declared.prefix.Mapping.TheVariants as mapping
 use Rattle.typing_rules.specs.declared.prefix.Part.{Part}
 use Rattle.typing_rules.specs.declared.prefix.Found.TheVariants.{Is}
 use Rattle.typing_rules.specs.declared.prefix.Prefix.{Prefix}
@@ -40,7 +44,7 @@ use Rattle.typing_rules.specs.Aggregates as cover
 use Rattle.typing_rules.specs.Aggregates.{cover_of}
 use Rattle.typing_rules.specs.Conditions.{Common}
 use Rattle.typing_rules.specs.Fits.{takes}
-use Rattle.typing_rules.specs.Lookups.{scalar_value, type_of}
+use Rattle.typing_rules.specs.Lookups.{Array, array_at, scalar_value, type_of}
 use Rattle.typing_rules.specs.Names.{converted, convertible, number_converted}
 use Rattle.typing_rules.specs.Parts.{Range}
 use Rattle.typing_rules.specs.Ranges.{reach_in}
@@ -172,3 +176,28 @@ MayBeChosen _ = Unit {0}
 pub data Covers (b : Bounds) (rs : List Bounds) : Bool → Type 0 where
   all_values : (partial : Bool) → cover_of b rs ≡ cover.whole → Covers b rs partial
   with_others : cover_of b rs ≡ cover.missing → Covers b rs true
+
+-- ---- attributes
+
+-- L19: a constrained array subtype, or an array
+pub data IsArray (c : Scope) (p : Place) : Prefix → Type 0 where
+  array_subtype : (k i t : ℕ) (b : Bounds) → form_at c.world k ≡ Some (form.Array i (Some b) t) → IsArray c p (prefix.Subtype k)
+  array_object : (g : Part) (a : Array) → array_at c.world g.subtype ≡ Some a → IsArray c p (prefix.Part g)
+  array_value : (f : Prefix) (t : ℕ) (x : Expr) (a : Array) → Valued c.world p f (Typed t x) → array_at c.world (subtype_of x) ≡ Some a → IsArray c p f
+
+-- L19: a scalar subtype, or an array
+pub data HasBounds (c : Scope) (p : Place) : Prefix → Type 0 where
+  scalar_subtype : (k : ℕ) (d : Discrete) (s : Scalar) → form_at c.world k ≡ Some (form.Number d s) → HasBounds c p (prefix.Subtype k)
+  array : (f : Prefix) → IsArray c p f → HasBounds c p f
+
+-- L19: the value that a whole object or a constant had before, where an object has one there
+pub data WasThere (c : Scope) (p : Place) (n : Object → Option (ExprNode Expr)) : Prefix → Seen → Type 0 where
+  whole_object : (g : Part) (x : ExprNode Expr) (v : Seen) → g.target.path ≡ [] → n g.target.object ≡ Some x → Makes c.world p g.subtype x v → WasThere c p n (prefix.Part g) v
+  always : (t : ℕ) (x : Expr) → WasThere c p n (prefix.Constant t x) (Typed t (made p (subtype_of x) (node.Convert None x)))
+
+-- the attributes that are functions
+pub data IsMapping : Word → Mapping → Type 0 where
+  succ : IsMapping word.Succ mapping.Succ
+  pred : IsMapping word.Pred mapping.Pred
+  position : IsMapping word.Pos mapping.Pos
+  literal_at : IsMapping word.Val mapping.Val

@@ -1,5 +1,5 @@
 -- Which typed expression an expression is by the rules of the language, a line a rule. -- Ada RM 4
-use Rattle.std.specs.Prelude.{◌≡◌, ◌&&◌, ℕ, suc, ℤ, pos, is_some, Bool, true, false, not, ◌||◌, ◌++◌, List, [], ◌∷◌, length, slice_get, Some, None}
+use Rattle.std.specs.Prelude.{◌≡◌, ◌&&◌, ℕ, suc, ℤ, pos, is_some, Bool, true, false, not, ◌||◌, ◌++◌, List, [], ◌∷◌, length, slice_get, Option, Some, None}
 use Rattle.ada_text.specs.declared.token.Span.{Span}
 use Rattle.ada_syntax.specs.declared.expressions.BinaryOperator.{BinaryOperator}
 use Rattle.ada_syntax.specs.declared.expressions.Quantifier.{Quantifier}
@@ -9,6 +9,9 @@ use Rattle.ada_values.specs.declared.scalars.Scalar.{Scalar}
 use Rattle.front_codes.specs.declared.codes.Code.{Code}
 use Rattle.front_codes.specs.declared.codes.Code.TheVariants as code
 use Rattle.name_library.specs.declared.links.Link.{Link}
+use Rattle.name_numbers.specs.Numbers.{word_of}
+use Rattle.name_numbers.specs.declared.words.Word.{Word}
+use Rattle.name_numbers.specs.declared.words.Word.TheVariants as word
 use Rattle.syntax_view.specs.Trees as tree
 use Rattle.typed_units.specs.declared.expressions.Actual.{Actual}
 use Rattle.typed_units.specs.declared.expressions.Actual.TheVariants as actual
@@ -26,6 +29,7 @@ use Rattle.typed_units.specs.declared.programs.Mode.{Mode}
 use Rattle.typed_units.specs.declared.programs.Mode.TheVariants as mode
 use Rattle.type_base.specs.Scope.{Scope}
 use Rattle.type_base.specs.declared.seen.Demand.TheVariants as demand
+use Rattle.type_base.specs.declared.seen.Moment.TheVariants as moment
 use Rattle.type_base.specs.declared.seen.Seen.{Seen}
 use Rattle.type_base.specs.declared.seen.Seen.TheVariants.{Unknown, Number, Typed}
 use Rattle.type_base.specs.declared.seen.Want.{Want}
@@ -38,7 +42,7 @@ use Rattle.type_base.specs.declared.world.Routine.{Routine}
 use Rattle.type_base.specs.Demands.{agree, subtype_of}
 use Rattle.type_base.specs.Lookups.{form_at, routine_at, type_at}
 use Rattle.type_base.specs.Operators.{family_of, joined, unary_of}
-use Rattle.type_base.specs.Results.{moved, truth_at}
+use Rattle.type_base.specs.Results.{moved, truth_at, truth_in}
 use Rattle.type_base.specs.Standard.{boolean, integer_base}
 use Rattle.typing_rules.specs.declared.prefix.Between.{Between}
 use Rattle.typing_rules.specs.declared.prefix.Found.TheVariants as found
@@ -54,19 +58,19 @@ use Rattle.typing_rules.specs.declared.aggregates.Gives.{Gives as GivenParts}
 use Rattle.typing_rules.specs.declared.aggregates.Manner.{Manner}
 use Rattle.typing_rules.specs.declared.aggregates.Manner.TheVariants as manner
 use Rattle.typing_rules.specs.Aggregates.{all_take, components_for, first_given, gives_value, is_empty, is_only, item_value, last_number, position_range, qualified_node}
-use Rattle.typing_rules.specs.Attributes.{attributed, bounded, literal as literal_at, next_value, position, range_at}
+use Rattle.typing_rules.specs.Attributes.{bound, bounded, entry_node, is_mapped, length_at, literal as literal_at, next_value, old_node, position, range_at}
 use Rattle.typing_rules.specs.Calls.{formal_for, is_named, passed, same_type, writable}
-use Rattle.typing_rules.specs.Conditions.{Common, branch_want, chosen, chosen_else, common_of, else_of, if_made, quantifier_of}
+use Rattle.typing_rules.specs.Conditions.{Common, branch_want, chosen, common_of, else_of, if_made, quantifier_of}
 use Rattle.typing_rules.specs.Fits.{takes}
-use Rattle.typing_rules.specs.Forms.{left_want, right_want}
+use Rattle.typing_rules.specs.Forms.{left_want, right_want, suffix_prefix}
 use Rattle.typing_rules.specs.Kinds.{branches_kind, range_kind}
 use Rattle.typing_rules.specs.Lookups.{Array, array_at, components_at, entity_by, entity_of, place_among, type_of, with_index}
 use Rattle.typing_rules.specs.Names.{is_checked}
 use Rattle.typing_rules.specs.Ranges.{bounds_reach, member_by, reach_in, static_range, want_or, weaker, bounds_of_type, reach_bounds, subtype_reach}
-use Rattle.typing_rules.specs.Reading.{arg, args, arms, item, maybe, range, read}
-use Rattle.typing_rules.specs.Values.{component_subtype, formals_of, place_of}
+use Rattle.typing_rules.specs.Reading.{arg, args, arms, item, maybe, range, read, suffix}
+use Rattle.typing_rules.specs.Values.{component_subtype, entity_prefix, formals_of, place_of}
 use Rattle.expression_rules.specs.Rules.{Common as CommonType, Gives, GivesOne, Is as HasKind, IsAs, Kind}
-use Rattle.typing_relations.specs.Demanded.{AnyInteger, Begins, Converts, Fits, Given, IsBranch, IsResult, Makes, OfType, Only, Tests, Valued, Covers, IsStatic, MayBeChosen, MayBePlaced}
+use Rattle.typing_relations.specs.Demanded.{AnyInteger, Begins, Converts, Fits, Given, IsBranch, IsResult, Makes, OfType, Only, Tests, Valued, Covers, IsStatic, MayBeChosen, MayBePlaced, HasBounds, IsArray, IsMapping, WasThere}
 
 -- a name so far of which nothing is known
 abbrev pub IsOpen : Prefix → Type 0
@@ -87,7 +91,7 @@ mutual
     literal : (c : Scope) (w : Want) (s : Span) (n : ℤ) → Stands c w (tree.at s (tree.number n)) (prefix.Value (Number n))
     name : (c : Scope) (w : Want) (s t i : Span) (ss : tree.Suffixes) (e f : Prefix) → Begins c (c.place s.from) (entity_of c i.from) e → Follows c w (c.place s.from) e ss f
         → Stands c w (tree.at s (tree.name (tree.named t i ss))) f
-    name_after_unknown : (c : Scope) (w : Want) (s t i : Span) (ss : tree.Suffixes) (e f : Prefix) → IsOpen e → Follows c w (c.place s.from) e ss f → Stands c w (tree.at s (tree.name (tree.named t i ss))) f
+    name_after_unknown : (c : Scope) (w : Want) (s t i : Span) (ss : tree.Suffixes) (e f : Prefix) → entity_prefix c (c.place s.from) (entity_of c i.from) ≡ e → IsOpen e → Follows c w (c.place s.from) e ss f → Stands c w (tree.at s (tree.name (tree.named t i ss))) f
     -- an expression in parentheses is that expression, for the same context
     in_parentheses : (c : Scope) (w : Want) (s : Span) (as' : tree.Args) (i : tree.Item) (u v : Seen) → Only as' i → ItemHas c w i u → IsResult (moved (c.place s.from) u) v
         → Stands c w (tree.at s (tree.group as')) (prefix.Value v)
@@ -112,9 +116,9 @@ mutual
   -- what may stand in parentheses
   pub data ItemStands : Scope → Want → tree.Item → Prefix → Type 0 where
     expression : (c : Scope) (w : Want) (s : Span) (e : tree.Expr) (f : Prefix) → Stands c w e f → ItemStands c w (tree.item s (tree.plain e)) f
-    -- an if-expression of static conditions and numbers
-    chosen_number : (c : Scope) (w : Want) (s : Span) (as' : tree.Arms) (e : tree.MaybeExpr) (n : ℤ)
-        → chosen_else c (branches_want c w as' e) (arms c as') (maybe c e) ≡ Some n → ItemStands c w (tree.item s (tree.choose as' e)) (prefix.Value (Number n))
+    -- a number, where all conditions are static and all branches are numbers (Ada RM 4.9)
+    chosen_number : (c : Scope) (w : Want) (s : Span) (as' : tree.Arms) (e : tree.Expr) (n : ℤ) → Picks c (branches_want c w as' (tree.an_expr e)) as' e n
+        → ItemStands c w (tree.item s (tree.choose as' (tree.an_expr e))) (prefix.Value (Number n))
     -- L9, L26
     chosen_value : (c : Scope) (w : Want) (s : Span) (as' : tree.Arms) (e : tree.MaybeExpr) (xs : List (Arm Expr)) (x : Expr) (v : Seen)
         → Arms c (branches_want c w as' e) (common_type c w as' e) [] as' xs → Else c (c.place s.from) (branches_want c w as' e) (common_type c w as' e) e x
@@ -134,6 +138,14 @@ mutual
   -- L26: a branch
   pub data Branch : Scope → Want → Common → tree.Expr → Expr → Type 0 where
     branch : (c : Scope) (w : Want) (k : Common) (e : tree.Expr) (v : Seen) (x : Expr) → Has c w e v → IsBranch c.world k (place_of c (read c e)) v x → Branch c w k e x
+
+  -- the number of the first branch whose condition is True, of conditions that are static and branches that are numbers
+  pub data Picks : Scope → Want → tree.Arms → tree.Expr → ℤ → Type 0 where
+    picks_else : (c : Scope) (w : Want) (e : tree.Expr) (n : ℤ) → Has c w e (Number n) → Picks c w tree.no_arms e n
+    picks_first : (c : Scope) (w : Want) (i g : tree.Expr) (as' : tree.Arms) (e : tree.Expr) (x : Expr) (m n : ℤ) → Condition c i x → truth_in x ≡ Some true → Has c w g (Number m) → Picks c w as' e n
+        → Picks c w (tree.arm i g as') e m
+    picks_later : (c : Scope) (w : Want) (i g : tree.Expr) (as' : tree.Arms) (e : tree.Expr) (x : Expr) (m n : ℤ) → Condition c i x → truth_in x ≡ Some false → Has c w g (Number m) → Picks c w as' e n
+        → Picks c w (tree.arm i g as') e n
 
   -- conditions with their branches, after those done
   pub data Arms : Scope → Want → Common → List (Arm Expr) → tree.Arms → List (Arm Expr) → Type 0 where
@@ -162,8 +174,9 @@ mutual
   pub data Follows : Scope → Want → Place → Prefix → tree.Suffixes → Prefix → Type 0 where
     ended : (c : Scope) (w : Want) (p : Place) (f : Prefix) → Follows c w p f tree.no_suffixes f
     then : (c : Scope) (w : Want) (p : Place) (f g h : Prefix) (s : tree.Suffix) (ss : tree.Suffixes) → Step c w p f s g → Follows c w p g ss h → Follows c w p f (tree.suffixes s ss) h
-    -- nothing is known of what stands before: an identifier with a declaration of its own may follow
-    unknown_before : (c : Scope) (w : Want) (p : Place) (f g h : Prefix) (s : tree.Suffix) (ss : tree.Suffixes) → IsOpen g → Follows c w p g ss h → Follows c w p f (tree.suffixes s ss) h
+    -- nothing is known of the name so far, since a declaration that it names is refused: an identifier with a declaration of its own
+    -- may follow
+    unknown_before : (c : Scope) (w : Want) (p : Place) (f g h : Prefix) (s : tree.Suffix) (ss : tree.Suffixes) → suffix_prefix c w p f (suffix c s) ≡ g → IsOpen g → Follows c w p g ss h → Follows c w p f (tree.suffixes s ss) h
 
   -- what a name is after one more suffix
   pub data Step : Scope → Want → Place → Prefix → tree.Suffix → Prefix → Type 0 where
@@ -193,9 +206,26 @@ mutual
     -- L10, L11: the argument of `'Succ`, `'Pred` and `'Pos`, of the subtype's type, and of `'Val`, of an integer type
     mapped_argument : (c : Scope) (w : Want) (p t : Place) (m : Mapping) (k : ℕ) (as' : tree.Args) (i : tree.Item) (v : Seen) → Only as' i → MapsTo c p t m k i v
         → Step c w p (prefix.Mapping m t k) (tree.applied as') (prefix.Value v)
-    -- L19
-    attribute : (c : Scope) (w : Want) (p : Place) (f g : Prefix) (s t : Span) → attributed c w p f s.from t.from ≡ g → Step c w p f (tree.ticked s (tree.attribute t)) g
-    range_attribute : (c : Scope) (w : Want) (p : Place) (f g : Prefix) (s : Span) → range_at c p (bounded c p f) ≡ g → Step c w p f (tree.ticked s tree.range_attribute) g
+    -- L19: the bounds of a scalar subtype or an array
+    first_attribute : (c : Scope) (w : Want) (p : Place) (f : Prefix) (s t : Span) (v : Seen) → word_of (c.name t.from) ≡ Some word.First → HasBounds c p f → IsResult (bound c p true f) v
+        → Step c w p f (tree.ticked s (tree.attribute t)) (prefix.Value v)
+    last_attribute : (c : Scope) (w : Want) (p : Place) (f : Prefix) (s t : Span) (v : Seen) → word_of (c.name t.from) ≡ Some word.Last → HasBounds c p f → IsResult (bound c p false f) v
+        → Step c w p f (tree.ticked s (tree.attribute t)) (prefix.Value v)
+    -- the length and the range of an array
+    length_attribute : (c : Scope) (w : Want) (p : Place) (f : Prefix) (s t : Span) (v : Seen) → word_of (c.name t.from) ≡ Some word.Length → IsArray c p f → IsResult (length_at c w p (c.place s.from) (bounded c p f)) v
+        → Step c w p f (tree.ticked s (tree.attribute t)) (prefix.Value v)
+    range_attribute : (c : Scope) (w : Want) (p : Place) (f g : Prefix) (s : Span) → IsArray c p f → range_at c p (bounded c p f) ≡ g → Step c w p f (tree.ticked s tree.range_attribute) g
+    -- `'Succ` and `'Pred` of enumeration and signed subtypes, `'Pos` and `'Val` of enumerations
+    mapping_attribute : (c : Scope) (w : Want) (p : Place) (k : ℕ) (s t : Span) (u : Word) (m : Mapping) (d : Discrete) (r : Scalar) → word_of (c.name t.from) ≡ Some u → IsMapping u m
+        → form_at c.world k ≡ Some (form.Number d r) → is_mapped m d ≡ true → Step c w p (prefix.Subtype k) (tree.ticked s (tree.attribute t)) (prefix.Mapping m (c.place s.from) k)
+    -- `'Old` in a postcondition, `'Loop_Entry` in a pragma inside the loop
+    old_attribute : (c : Scope) (w : Want) (p : Place) (f : Prefix) (s t : Span) (v : Seen) → word_of (c.name t.from) ≡ Some word.Old → c.moment ≡ moment.InPost → WasThere c p (old_node p) f v
+        → Step c w p f (tree.ticked s (tree.attribute t)) (prefix.Value v)
+    entry_attribute : (c : Scope) (w : Want) (p : Place) (f : Prefix) (s t : Span) (l : ℕ) (m : Option ℕ) (v : Seen) → word_of (c.name t.from) ≡ Some word.LoopEntry → c.moment ≡ moment.InLoop l m
+        → WasThere c p (entry_node p l m) f v → Step c w p f (tree.ticked s (tree.attribute t)) (prefix.Value v)
+    -- `'Result` of a function in its own postcondition
+    result_attribute : (c : Scope) (w : Want) (p : Place) (q k : ℕ) (r : Routine) (s t : Span) (v : Seen) → word_of (c.name t.from) ≡ Some word.Result → c.moment ≡ moment.InPost → c.own ≡ Some q
+        → routine_at c.world q ≡ Some r → r.result ≡ Some k → Makes c.world p k (node.Result p) v → Step c w p (prefix.Routine q) (tree.ticked s (tree.attribute t)) (prefix.Value v)
     -- L18: a value of the subtype's type, and of a constrained array subtype
     qualified : (c : Scope) (w : Want) (p : Place) (k : ℕ) (s : Span) (as' : tree.Args) (x : Fitted Expr) (v : Seen) → Qualifies c k s as' x
         → Makes c.world p k (qualified_node x x.bounds (out-Expr x.value).node) v → Step c w p (prefix.Subtype k) (tree.ticked s (tree.qualified as')) (prefix.Value v)
