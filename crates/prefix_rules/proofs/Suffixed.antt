@@ -1,5 +1,5 @@
 -- A name with suffixes is no identifier alone.
-use Rattle.std.proofs.Common.{◌≡◌, refl, ap, sym, ◌∙◌, ◌≤◌, List, [], ◌∷◌, length, Option, None, arith}
+use Rattle.std.proofs.Common.{◌≡◌, refl, ap, sym, ◌∙◌, ◌≤◌, List, [], ◌∷◌, length, None, arith}
 use Rattle.ada_syntax.specs.declared.expressions.Expr.{Expr, out-Expr}
 use Rattle.ada_syntax.specs.declared.expressions.ExprNode.TheVariants as node
 use Rattle.ada_syntax.specs.declared.expressions.Name.{Name}

@@ -1,5 +1,5 @@
 -- Parts of objects.
-use Rattle.std.specs.Prelude.{ℕ, List, [], ◌∷◌, ◌++◌}
+use Rattle.std.specs.Prelude.{ℕ, [], ◌∷◌, ◌++◌}
 use Rattle.typed_units.specs.declared.expressions.Expr.{Expr}
 use Rattle.typed_units.specs.declared.expressions.Step.{Step}
 use Rattle.typing_rules.specs.declared.prefix.Part.{Part}
