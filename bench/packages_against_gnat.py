@@ -13,6 +13,7 @@ import os
 import random
 import re
 import shutil
+import signal
 import subprocess
 import sys
 import tempfile
@@ -424,10 +425,21 @@ def changed(text, rng):
     return text
 
 
+class NoEnd(Exception):
+    """GNAT doesn't end on some wrong programs."""
+
+
 def gnat(folder, names):
     """Whether GNAT refuses, and its first error."""
     for name in names:
-        run = subprocess.run(["gcc", "-c", "-gnatc", "-gnat2012", "-gnatws", name], cwd=folder, capture_output=True, text=True)
+        child = subprocess.Popen(["gcc", "-c", "-gnatc", "-gnat2012", "-gnatws", name], cwd=folder, stdout=subprocess.PIPE, stderr=subprocess.PIPE, text=True, start_new_session=True)
+        try:
+            out, err = child.communicate(timeout=20)
+        except subprocess.TimeoutExpired:
+            os.killpg(child.pid, signal.SIGKILL)
+            child.communicate()
+            raise NoEnd from None
+        run = subprocess.CompletedProcess(child.args, child.returncode, out, err)
         errors = [l for l in run.stderr.splitlines() if re.match(r"\S+:\d+:\d+: ", l) and "warning:" not in l]
         if run.returncode != 0:
             return errors[0] if errors else run.stderr.strip() or "refused"
@@ -436,7 +448,7 @@ def gnat(folder, names):
 
 def program(path, folder, names):
     """Whether the program refuses, and what it says."""
-    run = subprocess.run([path, "prove", *names], cwd=folder, capture_output=True, text=True)
+    run = subprocess.run([path, "prove", *names], cwd=folder, capture_output=True, text=True, timeout=60)
     said = (run.stderr or run.stdout).strip().splitlines()
     return run.returncode, said[0] if said else ""
 
@@ -462,9 +474,13 @@ def main():
             for name, body in text.items():
                 open(f"{folder}/{name}", "w").write(body)
             names = sorted(text)
-            error, (status, said) = gnat(folder, names), program(path, folder, names)
             kind = "whole" if turn == 0 else "changed"
-            verdict = sorted_out(kind, error, status, said)
+            try:
+                error, (status, said) = gnat(folder, names), program(path, folder, names)
+                verdict = sorted_out(kind, error, said)
+            except NoEnd:
+                error = status = said = None
+                verdict = "passed over: GNAT doesn't end"
             counts[kind, verdict] = counts.get((kind, verdict), 0) + 1
             if args.v or verdict.startswith("!"):
                 print(f"{seed}/{turn}: {verdict}: GNAT: {error}; program: {status} {said}")
@@ -480,7 +496,7 @@ def main():
 NAMES = re.compile(r"is undefined|not visible|is not visible|conflicts with declaration|missing body|not fully conformant|not type conformant|no visible|ambiguous|not declared in|circular|hidden|misspelling|duplicate body|does not match|completion")
 
 
-def sorted_out(kind, error, status, said):
+def sorted_out(kind, error, said):
     """What the two answers are to one another; those that begin with ! are for a reader."""
     code = re.search(r"\b(BadByte|BadNumber|Unexpected|TooDeep|UnknownName|AmbiguousName|Duplicate|Overloaded|WithCycle|MissingBody|SpecMismatch|LeftOut|TooWide|L\d+|F\d+)\b", said)
     if code:
