@@ -85,6 +85,16 @@ branches_want c w as' e = branch_want w (branches_kind (arms c as') (maybe c e))
 abbrev pub common_type : Scope → Want → tree.Arms → tree.MaybeExpr → Common
 common_type c w as' e = common_of c (branches_want c w as' e) (arms c as') (maybe c e)
 
+-- a value that is no part of an object, of which the next part is a value too
+abbrev pub IsNoPart : Prefix → Type 0
+IsNoPart (prefix.Part g) = ⊥
+IsNoPart _ = Unit {0}
+
+abbrev pub IsOut : Mode → Type 0
+IsOut mode.In = ⊥
+IsOut mode.Out = Unit {0}
+IsOut mode.InOut = Unit {0}
+
 mutual
   -- what an expression stands for where the context gives this: a value, or what else a name is
   pub data Stands : Scope → Want → tree.Expr → Prefix → Type 0 where
@@ -187,7 +197,7 @@ mutual
         → c.link s.from ≡ None → components_at c.world g.subtype ≡ Some cs → place_among cs (c.name s.from) 0 ≡ Some n
         → Step c w p (prefix.Part g) (tree.selected s) (prefix.Part (record g { subtype = component_subtype (Some cs) n; target = record { place = g.target.place; object = g.target.object; path = g.target.path ++ (step.Component n (length cs) ∷ []) } }))
     value_component : (c : Scope) (w : Want) (p : Place) (f : Prefix) (s : Span) (t : ℕ) (x : Expr) (cs : List Component) (n : ℕ) (v : Seen)
-        → c.link s.from ≡ None → Valued c.world p f (Typed t x) → components_at c.world (subtype_of x) ≡ Some cs → place_among cs (c.name s.from) 0 ≡ Some n
+        → c.link s.from ≡ None → IsNoPart f → Valued c.world p f (Typed t x) → components_at c.world (subtype_of x) ≡ Some cs → place_among cs (c.name s.from) 0 ≡ Some n
         → Makes c.world p (component_subtype (Some cs) n) (node.Component x n) v → Step c w p f (tree.selected s) (prefix.Value v)
     -- L18
     conversion : (c : Scope) (w : Want) (p : Place) (k : ℕ) (as' : tree.Args) (i : tree.Item) (u v : Seen)
@@ -202,7 +212,7 @@ mutual
     object_item : (c : Scope) (w : Want) (p : Place) (g : Part) (as' : tree.Args) (a : Array) (x : Indexed Expr) → array_at c.world g.subtype ≡ Some a → Index c a as' x
         → Step c w p (prefix.Part g) (tree.applied as') (prefix.Part (record g { subtype = a.item; target = record { place = g.target.place; object = g.target.object; path = g.target.path ++ (step.Item a.bounds x ∷ []) } }))
     value_item : (c : Scope) (w : Want) (p : Place) (f : Prefix) (as' : tree.Args) (t : ℕ) (x : Expr) (a : Array) (y : Indexed Expr) (v : Seen)
-        → Valued c.world p f (Typed t x) → array_at c.world (subtype_of x) ≡ Some a → Index c a as' y → Makes c.world p a.item (node.Item x y) v → Step c w p f (tree.applied as') (prefix.Value v)
+        → IsNoPart f → Valued c.world p f (Typed t x) → array_at c.world (subtype_of x) ≡ Some a → Index c a as' y → Makes c.world p a.item (node.Item x y) v → Step c w p f (tree.applied as') (prefix.Value v)
     -- L10, L11: the argument of `'Succ`, `'Pred` and `'Pos`, of the subtype's type, and of `'Val`, of an integer type
     mapped_argument : (c : Scope) (w : Want) (p t : Place) (m : Mapping) (k : ℕ) (as' : tree.Args) (i : tree.Item) (v : Seen) → Only as' i → MapsTo c p t m k i v
         → Step c w p (prefix.Mapping m t k) (tree.applied as') (prefix.Value v)
@@ -308,7 +318,7 @@ mutual
   -- L11: what is passed for a formal of a mode and a subtype; for `out` and `in out` a variable
   pub data Passes : Scope → Mode → ℕ → tree.Item → Actual Expr → Type 0 where
     passed_in : (c : Scope) (k : ℕ) (i : tree.Item) (u : Seen) (x : Fitted Expr) → ItemHas c (want.Subtype k) i u → Fits c.world false k (place_of c (item c i)) u x → Passes c mode.In k i (actual.In x)
-    passed_out : (c : Scope) (m : Mode) (k : ℕ) (i : tree.Item) (g : Part) → ItemStands c want.Free i (prefix.Part g) → writable g.access ≡ true
+    passed_out : (c : Scope) (m : Mode) (k : ℕ) (i : tree.Item) (g : Part) → IsOut m → ItemStands c want.Free i (prefix.Part g) → writable g.access ≡ true
         → same_type (type_at c.world k) (type_at c.world g.subtype) ≡ true → takes c.world false k g.subtype ≡ true → Passes c m k i (passed c m k g)
 
 -- ---- in a reader's words
