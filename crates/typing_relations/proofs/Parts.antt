@@ -43,7 +43,7 @@ use Rattle.typing_rules.specs.Reading.{arg, args, item, read}
 use Rattle.typing_rules.specs.Values.{place_of, seen_of, value_of}
 use Rattle.expression_rules.specs.Rules.{IsIntegerType}
 use Rattle.typing_relations.specs.Demanded as demanded
-use Rattle.typing_relations.specs.Demanded.{AnyInteger, Converts, Fits, Given, IsResult, OfType, Only}
+use Rattle.typing_relations.specs.Demanded.{AnyInteger, Converts, Fits, Given, IsResult, OfType, Only, is_item}
 use Rattle.typing_relations.specs.Obeys as rule
 use Rattle.typing_relations.specs.Obeys.{Arguments, Has, Index, ItemHas, ItemStands, MapsTo, Passes, Qualifies, Stands, IsOut}
 use Rattle.typing_relations.proofs.Accepting.{Accepts, Allows, BothAre, Finds, accepts_always, accepts_map, both_are, finds_itself, finds_map, found_as, if_accepts, if_finds, result, result_with, spoiled_finds, then_finds, with_finds}
@@ -81,13 +81,13 @@ expr_accepts c e w h = of_valued c (place_of c (read c e)) (Stands c w e) (Has c
 
 -- ---- the only argument
 
-pub only_cases : (c : Scope) (as' : tree.Args) (R : Option Operand → Type 0) → ArgsGood c as' → R None → ((i : tree.Item) → Only as' i → ItemGood c i → R (Some (item c i))) → R (only_operand (args c as'))
-only_cases c tree.no_args R h n k = n
-only_cases c (tree.args (tree.arg s tree.other_parts v) as') R h n k = n
+pub only_cases : (c : Scope) (as' : tree.Args) (R : Option Operand → Type 0) → ArgsGood c as' → (is_item as' ≡ false → R None) → ((i : tree.Item) → Only as' i → ItemGood c i → R (Some (item c i))) → R (only_operand (args c as'))
+only_cases c tree.no_args R h n k = n refl
+only_cases c (tree.args (tree.arg s tree.other_parts v) as') R h n k = n refl
 only_cases c (tree.args (tree.arg s (tree.part i) tree.no_value) tree.no_args) R h n k = k i (demanded.only s i) h.0.0
-only_cases c (tree.args (tree.arg s (tree.part i) tree.no_value) (tree.args b bs)) R h n k = n
-only_cases c (tree.args (tree.arg s (tree.part i) (tree.value v)) as') R h n k = n
-only_cases c (tree.args (tree.arg s (tree.parts l u) v) as') R h n k = n
+only_cases c (tree.args (tree.arg s (tree.part i) tree.no_value) (tree.args b bs)) R h n k = n refl
+only_cases c (tree.args (tree.arg s (tree.part i) (tree.value v)) as') R h n k = n refl
+only_cases c (tree.args (tree.arg s (tree.parts l u) v) as') R h n k = n refl
 
 -- ---- conversions
 
@@ -128,7 +128,7 @@ converts_with c p k q (seen.Typed u x) P h = accepts_map _ (λ v. P (seen.Typed 
 
 pub conversion_step : (c : Scope) (w : Want) (p : Place) (k : ℕ) (as' : tree.Args) → ArgsGood c as' → Accepts (conversion_of c p k (only_operand (args c as'))) (λ v. rule.Step c w p (prefix.Subtype k) (tree.applied as') (prefix.Value v))
 conversion_step c w p k as' h =
-    only_cases c as' (λ o. Accepts (conversion_of c p k o) (λ v. rule.Step c w p (prefix.Subtype k) (tree.applied as') (prefix.Value v))) h tt
+    only_cases c as' (λ o. Accepts (conversion_of c p k o) (λ v. rule.Step c w p (prefix.Subtype k) (tree.applied as') (prefix.Value v))) h (λ e. tt)
     (λ i only good.
     let u = seen_of c (item c i) want.Free in
     let q = place_of c (item c i) in
@@ -148,7 +148,7 @@ pub index_finds : (c : Scope) (p : Place) (a : Array) (as' : tree.Args) → Args
 index_finds c p a tree.no_args h = tt
 index_finds c p a (tree.args b (tree.args d ds)) h = spoiled_finds (Index c a (tree.args b (tree.args d ds))) _ (broken code.L14 (c.place (arg c d).from))
 index_finds c p a (tree.args b tree.no_args) h =
-    only_cases c (tree.args b tree.no_args) (λ o. Finds (index_by c a (c.place (arg c b).from) o) (Index c a (tree.args b tree.no_args))) h tt
+    only_cases c (tree.args b tree.no_args) (λ o. Finds (index_by c a (c.place (arg c b).from) o) (Index c a (tree.args b tree.no_args))) h (λ e. tt)
     (λ i only good.
     let u = seen_of c (item c i) (want.Subtype a.index) in
     let q = place_of c (item c i) in
@@ -210,7 +210,7 @@ mapped_maps c p mapping.Val t k i h = literal_maps c p t k i (seen_of c (item c 
 pub mapped_step : (c : Scope) (w : Want) (p : Place) (m : Mapping) (t : Place) (k : ℕ) (as' : tree.Args) → ArgsGood c as'
     → Accepts (mapped c p m t k (only_operand (args c as'))) (λ v. rule.Step c w p (prefix.Mapping m t k) (tree.applied as') (prefix.Value v))
 mapped_step c w p m t k as' h =
-    only_cases c as' (λ o. Accepts (mapped c p m t k o) (λ v. rule.Step c w p (prefix.Mapping m t k) (tree.applied as') (prefix.Value v))) h tt
+    only_cases c as' (λ o. Accepts (mapped c p m t k o) (λ v. rule.Step c w p (prefix.Mapping m t k) (tree.applied as') (prefix.Value v))) h (λ e. tt)
     (λ i only good.
     accepts_map (MapsTo c p t m k i) (λ v. rule.Step c w p (prefix.Mapping m t k) (tree.applied as') (prefix.Value v)) (λ v z. rule.mapped_argument c w p t m k as' i v only z) _ (mapped_maps c p m t k i good))
 
