@@ -497,8 +497,8 @@ qualified_step c w p k s as' h =
     let a = aggregate c (c.place s.from) (want.Subtype k) (args c as') in
     let q = c.place s.from in
     only_cases c as' (λ o. Accepts (qualified_by c p k (c.place s.from) (args c as') o) (λ u. rule.Step c w p (prefix.Subtype k) (tree.ticked s (tree.qualified as')) (prefix.Value u))) h
-    (qualified_accepts c w p k s as' (fit c.world code.L18 false k q a)
-    (finds_map (λ x. Fits c.world false k q a x × Aggregates c q (want.Subtype k) as' a) (Qualifies c k s as') (λ x z. rule.by_aggregate c k s as' a x z.1 z.0) (fit c.world code.L18 false k q a) (fit_finds c.world code.L18 false k q a (Aggregates c q (want.Subtype k) as') (aggregate_accepts c (want.Subtype k) q as' h))))
+    (λ e. qualified_accepts c w p k s as' (fit c.world code.L18 false k q a)
+    (finds_map (λ x. Fits c.world false k q a x × Aggregates c q (want.Subtype k) as' a) (Qualifies c k s as') (λ x z. rule.by_aggregate c k s as' a x e z.1 z.0) (fit c.world code.L18 false k q a) (fit_finds c.world code.L18 false k q a (Aggregates c q (want.Subtype k) as') (aggregate_accepts c (want.Subtype k) q as' h))))
     (λ i only good.
     let u = seen_of c (item c i) (want.Subtype k) in
     let r = place_of c (item c i) in

@@ -412,7 +412,7 @@ if_by_stands c w s as' e None i h j =
     (both_finds (Arms c b k [] as') (Else c p b k e) (PartsAre c p b k as' e) chooser xs o (arms_finds c b k as' h) (else_finds c p b k e j) (λ ys x y z. record { arms = y; otherwise = z }))
     (λ r z.
     let q = if_made c p k r.arms r.otherwise (chosen r.arms r.otherwise) in
-    accepts_map (IsResult q) (λ v. ItemStands c w (tree.item s (tree.choose as' e)) (prefix.Value v)) (λ v y. rule.chosen_value c w s as' e r.arms r.otherwise v z.arms z.otherwise y) q (result q))
+    accepts_map (IsResult q) (λ v. ItemStands c w (tree.item s (tree.choose as' e)) (prefix.Value v)) (λ v y. rule.chosen_value c w s as' e r.arms r.otherwise v i z.arms z.otherwise y) q (result q))
 
 pub if_stands : (c : Scope) (w : Want) (s : Span) (as' : tree.Arms) (e : tree.MaybeExpr) → ArmsGood c as' → MaybeGood c e
     → Accepts (if_by c (c.place s.from) (branches_want c w as' e) (arms c as') (maybe c e) (chosen_else c (branches_want c w as' e) (arms c as') (maybe c e))) (λ v. ItemStands c w (tree.item s (tree.choose as' e)) (prefix.Value v))

@@ -41,7 +41,7 @@ use Rattle.typing_rules.specs.Values.{call_value, component_subtype, entity_pref
 use Rattle.typing_relations.specs.Demanded as demanded
 use Rattle.typing_relations.specs.Demanded.{Begins, Makes, Valued}
 use Rattle.typing_relations.specs.Obeys as rule
-use Rattle.typing_relations.specs.Obeys.{Arguments, Follows, Index, Step}
+use Rattle.typing_relations.specs.Obeys.{Arguments, Follows, Index, Step, IsNoPart}
 use Rattle.typing_relations.proofs.Accepting.{Accepts, Allows, Finds, accepts_map, allows_all, allows_map, finds_map, makes_accepts, then_accepts}
 use Rattle.typing_relations.proofs.Parts.{ArgsGood, arguments_finds, conversion_step, index_finds, mapped_step}
 use Rattle.typing_relations.proofs.Attributed.{attribute_step, range_step}
@@ -86,35 +86,35 @@ part_components : (c : Scope) (w : Want) (p : Place) (g : Part) (s : Span) (m : 
 part_components c w p g s None e i = tt
 part_components c w p g s (Some cs) e i = part_place c w p g s cs (place_among cs (c.name s.from) 0) e i refl
 
-value_place : (c : Scope) (w : Want) (p : Place) (f : Prefix) (s : Span) (t : ℕ) (x : Expr) (cs : List Component) (m : Option ℕ) → c.link s.from ≡ None → Valued c.world p f (seen.Typed t x)
+value_place : (c : Scope) (w : Want) (p : Place) (f : Prefix) (s : Span) (t : ℕ) (x : Expr) (cs : List Component) (m : Option ℕ) → c.link s.from ≡ None → IsNoPart f → Valued c.world p f (seen.Typed t x)
     → components_at c.world (subtype_of x) ≡ Some cs → place_among cs (c.name s.from) 0 ≡ m → Accepts (component_of c p x cs m) (λ v. Step c w p f (tree.selected s) (prefix.Value v))
-value_place c w p f s t x cs None e h i j = tt
-value_place c w p f s t x cs (Some n) e h i j =
+value_place c w p f s t x cs None e o h i j = tt
+value_place c w p f s t x cs (Some n) e o h i j =
     let k = component_subtype (Some cs) n in
-    accepts_map (Makes c.world p k (node.Component x n)) (λ v. Step c w p f (tree.selected s) (prefix.Value v)) (λ v z. rule.value_component c w p f s t x cs n v e h i j z) (seen_as c p k (node.Component x n)) (makes_accepts c p k (node.Component x n))
+    accepts_map (Makes c.world p k (node.Component x n)) (λ v. Step c w p f (tree.selected s) (prefix.Value v)) (λ v z. rule.value_component c w p f s t x cs n v e o h i j z) (seen_as c p k (node.Component x n)) (makes_accepts c p k (node.Component x n))
 
-value_components : (c : Scope) (w : Want) (p : Place) (f : Prefix) (s : Span) (t : ℕ) (x : Expr) (m : Option (List Component)) → c.link s.from ≡ None → Valued c.world p f (seen.Typed t x) → components_at c.world (subtype_of x) ≡ m
+value_components : (c : Scope) (w : Want) (p : Place) (f : Prefix) (s : Span) (t : ℕ) (x : Expr) (m : Option (List Component)) → c.link s.from ≡ None → IsNoPart f → Valued c.world p f (seen.Typed t x) → components_at c.world (subtype_of x) ≡ m
     → Accepts (record_component c p (c.name s.from) x m) (λ v. Step c w p f (tree.selected s) (prefix.Value v))
-value_components c w p f s t x None e h i = tt
-value_components c w p f s t x (Some cs) e h i = value_place c w p f s t x cs (place_among cs (c.name s.from) 0) e h i refl
+value_components c w p f s t x None e o h i = tt
+value_components c w p f s t x (Some cs) e o h i = value_place c w p f s t x cs (place_among cs (c.name s.from) 0) e o h i refl
 
-value_component_step : (c : Scope) (w : Want) (p : Place) (f : Prefix) (s : Span) (u : Seen) → c.link s.from ≡ None → Accepts u (Valued c.world p f)
+value_component_step : (c : Scope) (w : Want) (p : Place) (f : Prefix) (s : Span) (u : Seen) → c.link s.from ≡ None → IsNoPart f → Accepts u (Valued c.world p f)
     → Accepts (value_component c p (c.name s.from) u) (λ v. Step c w p f (tree.selected s) (prefix.Value v))
-value_component_step c w p f s (seen.Refused g) e h = tt
-value_component_step c w p f s seen.Unknown e h = tt
-value_component_step c w p f s (seen.Number n) e h = tt
-value_component_step c w p f s (seen.Typed t x) e h = value_components c w p f s t x (components_at c.world (subtype_of x)) e h refl
+value_component_step c w p f s (seen.Refused g) e o h = tt
+value_component_step c w p f s seen.Unknown e o h = tt
+value_component_step c w p f s (seen.Number n) e o h = tt
+value_component_step c w p f s (seen.Typed t x) e o h = value_components c w p f s t x (components_at c.world (subtype_of x)) e o h refl
 
 component_step : (c : Scope) (w : Want) (p : Place) (f : Prefix) (s : Span) → c.link s.from ≡ None → Allows (component c p (c.name s.from) f) (Step c w p f (tree.selected s))
 component_step c w p (prefix.Part g) s e = part_components c w p g s (components_at c.world g.subtype) e refl
-component_step c w p prefix.Package s e = let f = prefix.Package in value_component_step c w p f s (value_of c p f) e (valued c p f)
-component_step c w p (prefix.Subtype k) s e = let f = prefix.Subtype k in value_component_step c w p f s (value_of c p f) e (valued c p f)
-component_step c w p (prefix.Routine q) s e = let f = prefix.Routine q in value_component_step c w p f s (value_of c p f) e (valued c p f)
-component_step c w p (prefix.Called q xs) s e = let f = prefix.Called q xs in value_component_step c w p f s (value_of c p f) e (valued c p f)
-component_step c w p (prefix.Mapping m t k) s e = let f = prefix.Mapping m t k in value_component_step c w p f s (value_of c p f) e (valued c p f)
-component_step c w p (prefix.Range b) s e = let f = prefix.Range b in value_component_step c w p f s (value_of c p f) e (valued c p f)
-component_step c w p (prefix.Constant t x) s e = let f = prefix.Constant t x in value_component_step c w p f s (value_of c p f) e (valued c p f)
-component_step c w p (prefix.Value v) s e = let f = prefix.Value v in value_component_step c w p f s (value_of c p f) e (valued c p f)
+component_step c w p prefix.Package s e = let f = prefix.Package in value_component_step c w p f s (value_of c p f) e tt (valued c p f)
+component_step c w p (prefix.Subtype k) s e = let f = prefix.Subtype k in value_component_step c w p f s (value_of c p f) e tt (valued c p f)
+component_step c w p (prefix.Routine q) s e = let f = prefix.Routine q in value_component_step c w p f s (value_of c p f) e tt (valued c p f)
+component_step c w p (prefix.Called q xs) s e = let f = prefix.Called q xs in value_component_step c w p f s (value_of c p f) e tt (valued c p f)
+component_step c w p (prefix.Mapping m t k) s e = let f = prefix.Mapping m t k in value_component_step c w p f s (value_of c p f) e tt (valued c p f)
+component_step c w p (prefix.Range b) s e = let f = prefix.Range b in value_component_step c w p f s (value_of c p f) e tt (valued c p f)
+component_step c w p (prefix.Constant t x) s e = let f = prefix.Constant t x in value_component_step c w p f s (value_of c p f) e tt (valued c p f)
+component_step c w p (prefix.Value v) s e = let f = prefix.Value v in value_component_step c w p f s (value_of c p f) e tt (valued c p f)
 
 selected_step : (c : Scope) (w : Want) (p : Place) (f : Prefix) (s : Span) (m : Option Link) → c.link s.from ≡ m → Allows (selected_by c p f s.from m) (Step c w p f (tree.selected s))
 selected_step c w p f s (Some l) e = anew_step c w p f s l e
@@ -122,18 +122,18 @@ selected_step c w p f s None e = component_step c w p f s e
 
 -- ---- items
 
-array_item_step : (c : Scope) (w : Want) (p : Place) (f : Prefix) (as' : tree.Args) (t : ℕ) (x : Expr) (m : Option Array) → ArgsGood c as' → Valued c.world p f (seen.Typed t x) → array_at c.world (subtype_of x) ≡ m
+array_item_step : (c : Scope) (w : Want) (p : Place) (f : Prefix) (as' : tree.Args) (t : ℕ) (x : Expr) (m : Option Array) → ArgsGood c as' → IsNoPart f → Valued c.world p f (seen.Typed t x) → array_at c.world (subtype_of x) ≡ m
     → Accepts (array_item c p x (args c as') m) (λ v. Step c w p f (tree.applied as') (prefix.Value v))
-array_item_step c w p f as' t x None h i e = tt
-array_item_step c w p f as' t x (Some a) h i e =
+array_item_step c w p f as' t x None h o i e = tt
+array_item_step c w p f as' t x (Some a) h o i e =
     then_accepts (Index c a as') (λ v. Step c w p f (tree.applied as') (prefix.Value v)) (index_of c p a (args c as')) (λ z. seen_as c p a.item (node.Item x z)) (index_finds c p a as' h)
-    (λ y j. accepts_map (Makes c.world p a.item (node.Item x y)) (λ v. Step c w p f (tree.applied as') (prefix.Value v)) (λ v z. rule.value_item c w p f as' t x a y v i e j z) (seen_as c p a.item (node.Item x y)) (makes_accepts c p a.item (node.Item x y)))
+    (λ y j. accepts_map (Makes c.world p a.item (node.Item x y)) (λ v. Step c w p f (tree.applied as') (prefix.Value v)) (λ v z. rule.value_item c w p f as' t x a y v o i e j z) (seen_as c p a.item (node.Item x y)) (makes_accepts c p a.item (node.Item x y)))
 
-value_item_step : (c : Scope) (w : Want) (p : Place) (f : Prefix) (as' : tree.Args) (u : Seen) → ArgsGood c as' → Accepts u (Valued c.world p f) → Accepts (value_item c p (args c as') u) (λ v. Step c w p f (tree.applied as') (prefix.Value v))
-value_item_step c w p f as' (seen.Refused g) h i = tt
-value_item_step c w p f as' seen.Unknown h i = unknown_accepts (λ v. Step c w p f (tree.applied as') (prefix.Value v)) c (args c as')
-value_item_step c w p f as' (seen.Number n) h i = tt
-value_item_step c w p f as' (seen.Typed t x) h i = array_item_step c w p f as' t x (array_at c.world (subtype_of x)) h i refl
+value_item_step : (c : Scope) (w : Want) (p : Place) (f : Prefix) (as' : tree.Args) (u : Seen) → ArgsGood c as' → IsNoPart f → Accepts u (Valued c.world p f) → Accepts (value_item c p (args c as') u) (λ v. Step c w p f (tree.applied as') (prefix.Value v))
+value_item_step c w p f as' (seen.Refused g) h o i = tt
+value_item_step c w p f as' seen.Unknown h o i = unknown_accepts (λ v. Step c w p f (tree.applied as') (prefix.Value v)) c (args c as')
+value_item_step c w p f as' (seen.Number n) h o i = tt
+value_item_step c w p f as' (seen.Typed t x) h o i = array_item_step c w p f as' t x (array_at c.world (subtype_of x)) h o i refl
 
 item_found : (c : Scope) (w : Want) (p : Place) (g : Part) (a : Array) (as' : tree.Args) (x : Found (Indexed Expr)) → array_at c.world g.subtype ≡ Some a → Finds x (Index c a as') → Allows (item_of g a x) (Step c w p (prefix.Part g) (tree.applied as'))
 item_found c w p g a as' (found.Refused f) e h = tt
@@ -156,7 +156,7 @@ function_step : (c : Scope) (w : Want) (p : Place) (q k : ℕ) (r : Routine) (as
     → Finds (arguments c p fs [] false (found.Is []) (args c as')) (Arguments c (formals_of c.world r) [] false [] as') → Allows (function_call c p q k (args c as') fs m) (Step c w p (prefix.Routine q) (tree.applied as'))
 function_step c w p q k r as' [] (Some a) e i j h z =
     let n = node.Call p q [] in
-    value_item_step c w p (prefix.Routine q) as' (seen_as c p k n) h (accepts_map (Makes c.world p k n) (Valued c.world p (prefix.Routine q)) (λ v y. demanded.of_call q k r v e i j y) (seen_as c p k n) (makes_accepts c p k n))
+    value_item_step c w p (prefix.Routine q) as' (seen_as c p k n) h tt (accepts_map (Makes c.world p k n) (Valued c.world p (prefix.Routine q)) (λ v y. demanded.of_call q k r v e i j y) (seen_as c p k n) (makes_accepts c p k n))
 function_step c w p q k r as' [] None e i j h z = value_called c w p q k r as' (arguments c p [] [] false (found.Is []) (args c as')) e i z
 function_step c w p q k r as' (f ∷ fs) m e i j h z = value_called c w p q k r as' (arguments c p (f ∷ fs) [] false (found.Is []) (args c as')) e i z
 
@@ -176,11 +176,11 @@ application_step c w p (prefix.Subtype k) as' h = conversion_step c w p k as' h
 application_step c w p (prefix.Routine q) as' h = call_step c w p q as' (routine_at c.world q) refl h
 application_step c w p (prefix.Mapping m t k) as' h = mapped_step c w p m t k as' h
 application_step c w p (prefix.Part g) as' h = part_item_step c w p g as' (array_at c.world g.subtype) h refl
-application_step c w p prefix.Package as' h = let f = prefix.Package in value_item_step c w p f as' (value_of c p f) h (valued c p f)
-application_step c w p (prefix.Called q xs) as' h = let f = prefix.Called q xs in value_item_step c w p f as' (value_of c p f) h (valued c p f)
-application_step c w p (prefix.Range b) as' h = let f = prefix.Range b in value_item_step c w p f as' (value_of c p f) h (valued c p f)
-application_step c w p (prefix.Constant t x) as' h = let f = prefix.Constant t x in value_item_step c w p f as' (value_of c p f) h (valued c p f)
-application_step c w p (prefix.Value s) as' h = let f = prefix.Value s in value_item_step c w p f as' (value_of c p f) h (valued c p f)
+application_step c w p prefix.Package as' h = let f = prefix.Package in value_item_step c w p f as' (value_of c p f) h tt (valued c p f)
+application_step c w p (prefix.Called q xs) as' h = let f = prefix.Called q xs in value_item_step c w p f as' (value_of c p f) h tt (valued c p f)
+application_step c w p (prefix.Range b) as' h = let f = prefix.Range b in value_item_step c w p f as' (value_of c p f) h tt (valued c p f)
+application_step c w p (prefix.Constant t x) as' h = let f = prefix.Constant t x in value_item_step c w p f as' (value_of c p f) h tt (valued c p f)
+application_step c w p (prefix.Value s) as' h = let f = prefix.Value s in value_item_step c w p f as' (value_of c p f) h tt (valued c p f)
 
 -- ---- qualifications and attributes
 

@@ -43,9 +43,9 @@ use Rattle.typing_rules.specs.Reading.{arg, args, item, read}
 use Rattle.typing_rules.specs.Values.{place_of, seen_of, value_of}
 use Rattle.expression_rules.specs.Rules.{IsIntegerType}
 use Rattle.typing_relations.specs.Demanded as demanded
-use Rattle.typing_relations.specs.Demanded.{AnyInteger, Converts, Fits, Given, IsResult, OfType, Only}
+use Rattle.typing_relations.specs.Demanded.{AnyInteger, Converts, Fits, Given, IsResult, OfType, Only, is_item}
 use Rattle.typing_relations.specs.Obeys as rule
-use Rattle.typing_relations.specs.Obeys.{Arguments, Has, Index, ItemHas, ItemStands, MapsTo, Passes, Qualifies, Stands}
+use Rattle.typing_relations.specs.Obeys.{Arguments, Has, Index, ItemHas, ItemStands, MapsTo, Passes, Qualifies, Stands, IsOut}
 use Rattle.typing_relations.proofs.Accepting.{Accepts, Allows, BothAre, Finds, accepts_always, accepts_map, both_are, finds_itself, finds_map, found_as, if_accepts, if_finds, result, result_with, spoiled_finds, then_finds, with_finds}
 use Rattle.typing_relations.proofs.Values.{TypedAs, both_true, fit_finds, of_type_accepts, of_valued}
 
@@ -81,13 +81,13 @@ expr_accepts c e w h = of_valued c (place_of c (read c e)) (Stands c w e) (Has c
 
 -- ---- the only argument
 
-pub only_cases : (c : Scope) (as' : tree.Args) (R : Option Operand → Type 0) → ArgsGood c as' → R None → ((i : tree.Item) → Only as' i → ItemGood c i → R (Some (item c i))) → R (only_operand (args c as'))
-only_cases c tree.no_args R h n k = n
-only_cases c (tree.args (tree.arg s tree.other_parts v) as') R h n k = n
+pub only_cases : (c : Scope) (as' : tree.Args) (R : Option Operand → Type 0) → ArgsGood c as' → (is_item as' ≡ false → R None) → ((i : tree.Item) → Only as' i → ItemGood c i → R (Some (item c i))) → R (only_operand (args c as'))
+only_cases c tree.no_args R h n k = n refl
+only_cases c (tree.args (tree.arg s tree.other_parts v) as') R h n k = n refl
 only_cases c (tree.args (tree.arg s (tree.part i) tree.no_value) tree.no_args) R h n k = k i (demanded.only s i) h.0.0
-only_cases c (tree.args (tree.arg s (tree.part i) tree.no_value) (tree.args b bs)) R h n k = n
-only_cases c (tree.args (tree.arg s (tree.part i) (tree.value v)) as') R h n k = n
-only_cases c (tree.args (tree.arg s (tree.parts l u) v) as') R h n k = n
+only_cases c (tree.args (tree.arg s (tree.part i) tree.no_value) (tree.args b bs)) R h n k = n refl
+only_cases c (tree.args (tree.arg s (tree.part i) (tree.value v)) as') R h n k = n refl
+only_cases c (tree.args (tree.arg s (tree.parts l u) v) as') R h n k = n refl
 
 -- ---- conversions
 
@@ -128,7 +128,7 @@ converts_with c p k q (seen.Typed u x) P h = accepts_map _ (λ v. P (seen.Typed 
 
 pub conversion_step : (c : Scope) (w : Want) (p : Place) (k : ℕ) (as' : tree.Args) → ArgsGood c as' → Accepts (conversion_of c p k (only_operand (args c as'))) (λ v. rule.Step c w p (prefix.Subtype k) (tree.applied as') (prefix.Value v))
 conversion_step c w p k as' h =
-    only_cases c as' (λ o. Accepts (conversion_of c p k o) (λ v. rule.Step c w p (prefix.Subtype k) (tree.applied as') (prefix.Value v))) h tt
+    only_cases c as' (λ o. Accepts (conversion_of c p k o) (λ v. rule.Step c w p (prefix.Subtype k) (tree.applied as') (prefix.Value v))) h (λ e. tt)
     (λ i only good.
     let u = seen_of c (item c i) want.Free in
     let q = place_of c (item c i) in
@@ -148,7 +148,7 @@ pub index_finds : (c : Scope) (p : Place) (a : Array) (as' : tree.Args) → Args
 index_finds c p a tree.no_args h = tt
 index_finds c p a (tree.args b (tree.args d ds)) h = spoiled_finds (Index c a (tree.args b (tree.args d ds))) _ (broken code.L14 (c.place (arg c d).from))
 index_finds c p a (tree.args b tree.no_args) h =
-    only_cases c (tree.args b tree.no_args) (λ o. Finds (index_by c a (c.place (arg c b).from) o) (Index c a (tree.args b tree.no_args))) h tt
+    only_cases c (tree.args b tree.no_args) (λ o. Finds (index_by c a (c.place (arg c b).from) o) (Index c a (tree.args b tree.no_args))) h (λ e. tt)
     (λ i only good.
     let u = seen_of c (item c i) (want.Subtype a.index) in
     let q = place_of c (item c i) in
@@ -210,7 +210,7 @@ mapped_maps c p mapping.Val t k i h = literal_maps c p t k i (seen_of c (item c 
 pub mapped_step : (c : Scope) (w : Want) (p : Place) (m : Mapping) (t : Place) (k : ℕ) (as' : tree.Args) → ArgsGood c as'
     → Accepts (mapped c p m t k (only_operand (args c as'))) (λ v. rule.Step c w p (prefix.Mapping m t k) (tree.applied as') (prefix.Value v))
 mapped_step c w p m t k as' h =
-    only_cases c as' (λ o. Accepts (mapped c p m t k o) (λ v. rule.Step c w p (prefix.Mapping m t k) (tree.applied as') (prefix.Value v))) h tt
+    only_cases c as' (λ o. Accepts (mapped c p m t k o) (λ v. rule.Step c w p (prefix.Mapping m t k) (tree.applied as') (prefix.Value v))) h (λ e. tt)
     (λ i only good.
     accepts_map (MapsTo c p t m k i) (λ v. rule.Step c w p (prefix.Mapping m t k) (tree.applied as') (prefix.Value v)) (λ v z. rule.mapped_argument c w p t m k as' i v only z) _ (mapped_maps c p m t k i good))
 
@@ -233,20 +233,20 @@ variable_finds c r q (prefix.Range b) S h = not_variable (λ g. S (prefix.Part g
 variable_finds c r q (prefix.Constant t x) S h = not_variable (λ g. S (prefix.Part g) × (writable g.access ≡ true)) r q (value_of c q (prefix.Constant t x))
 variable_finds c r q (prefix.Value s) S h = not_variable (λ g. S (prefix.Part g) × (writable g.access ≡ true)) r q (value_of c q (prefix.Value s))
 
-out_passes : (c : Scope) (q : Place) (m : Mode) (k : ℕ) (i : tree.Item) (g : Part) (t : Option ℕ) → type_at c.world k ≡ t → ItemStands c want.Free i (prefix.Part g) → writable g.access ≡ true → Finds (passed_as c q m k t g) (Passes c m k i)
-out_passes c q m k i g None e h w = tt
-out_passes c q m k i g (Some t) e h w =
+out_passes : (c : Scope) (q : Place) (m : Mode) (k : ℕ) (i : tree.Item) (g : Part) (t : Option ℕ) → type_at c.world k ≡ t → IsOut m → ItemStands c want.Free i (prefix.Part g) → writable g.access ≡ true → Finds (passed_as c q m k t g) (Passes c m k i)
+out_passes c q m k i g None e o h w = tt
+out_passes c q m k i g (Some t) e o h w =
     let a = same_type (Some t) (type_at c.world g.subtype) in
     let b = takes c.world false k g.subtype in
     if_finds (Passes c m k i) (a && b) (found.Is (passed c m k g)) (broken code.L11 q)
-    (λ j. let z = both_true a b j in rule.passed_out c m k i g h w (subst (λ (n : Option ℕ). same_type n (type_at c.world g.subtype) ≡ true) (sym e) z.0) z.1)
+    (λ j. let z = both_true a b j in rule.passed_out c m k i g o h w (subst (λ (n : Option ℕ). same_type n (type_at c.world g.subtype) ≡ true) (sym e) z.0) z.1)
 
-variable_passes : (c : Scope) (m : Mode) (k : ℕ) (i : tree.Item) → ItemGood c i
+variable_passes : (c : Scope) (m : Mode) (k : ℕ) (i : tree.Item) → IsOut m → ItemGood c i
     → Finds (found_then (variable c code.L11 (place_of c (item c i)) ((item c i).prefix want.Free)) (passed_as c (place_of c (item c i)) m k (type_at c.world k))) (Passes c m k i)
-variable_passes c m k i h =
+variable_passes c m k i o h =
     let q = place_of c (item c i) in
     then_finds (λ g. ItemStands c want.Free i (prefix.Part g) × (writable g.access ≡ true)) (Passes c m k i) (variable c code.L11 q ((item c i).prefix want.Free)) (passed_as c q m k (type_at c.world k))
-    (variable_finds c code.L11 q ((item c i).prefix want.Free) (ItemStands c want.Free i) (h want.Free)) (λ g z. out_passes c q m k i g (type_at c.world k) refl z.0 z.1)
+    (variable_finds c code.L11 q ((item c i).prefix want.Free) (ItemStands c want.Free i) (h want.Free)) (λ g z. out_passes c q m k i g (type_at c.world k) refl o z.0 z.1)
 
 passes : (c : Scope) (m : Mode) (k : ℕ) (i : tree.Item) → ItemGood c i → Finds (actual_of c m k (item c i)) (Passes c m k i)
 passes c mode.In k i h =
@@ -254,8 +254,8 @@ passes c mode.In k i h =
     let q = place_of c (item c i) in
     with_finds (λ x. Fits c.world false k q u x × ItemHas c (want.Subtype k) i u) (Passes c mode.In k i) actual.In (fit c.world code.L11 false k q u)
     (fit_finds c.world code.L11 false k q u (ItemHas c (want.Subtype k) i) (item_accepts c i (want.Subtype k) h)) (λ x z. rule.passed_in c k i u x z.1 z.0)
-passes c mode.Out k i h = variable_passes c mode.Out k i h
-passes c mode.InOut k i h = variable_passes c mode.InOut k i h
+passes c mode.Out k i h = variable_passes c mode.Out k i tt h
+passes c mode.InOut k i h = variable_passes c mode.InOut k i tt h
 
 -- an argument for formal n
 record ArgumentIs (c : Scope) (fs : List Formal) (n : ℕ) (a : tree.Arg) (x : Argument Expr) : Type 0 where

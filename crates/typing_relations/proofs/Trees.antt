@@ -39,7 +39,7 @@ group_stands c w s as' h =
     let P : Seen → Type 0 = λ v. Stands c w (tree.at s (tree.group as')) (prefix.Value v) in
     let a = aggregate c p w (args c as') in
     only_cases c as' (λ o. Accepts (grouped c p w (args c as') o) P) h
-    (accepts_map (Aggregates c p w as') P (λ v z. rule.aggregate_is c w s as' v z) a (aggregate_accepts c w p as' h))
+    (λ e. accepts_map (Aggregates c p w as') P (λ v z. rule.aggregate_is c w s as' v e z) a (aggregate_accepts c w p as' h))
     (λ i only good.
     let u = seen_of c (item c i) w in
     accepts_both (λ v. ItemHas c w i u) (IsResult (moved p u)) P (λ v y z. rule.in_parentheses c w s as' i u v only y z) (moved p u) (moved_with p u (ItemHas c w i) (item_accepts c i w good)) (result (moved p u)))

@@ -1,5 +1,5 @@
 -- What rules demand of parts that are accepted, and what these give.
-use Rattle.std.specs.Prelude.{◌≡◌, ℕ, ℤ, Bool, true, List, [], Option, Some, None}
+use Rattle.std.specs.Prelude.{◌≡◌, ℕ, ℤ, Bool, true, false, List, [], Option, Some, None}
 use Rattle.ada_values.specs.Scalars.{in_base}
 use Rattle.ada_values.specs.declared.place.Place.{Place}
 use Rattle.ada_values.specs.declared.scalars.Scalar.{Scalar}
@@ -129,6 +129,11 @@ pub data Valued (w : World) (p : Place) : Prefix → Seen → Type 0 where
 -- the only argument in parentheses, an item alone
 pub data Only : tree.Args → tree.Item → Type 0 where
   only : (s : Span) (i : tree.Item) → Only (tree.args (tree.arg s (tree.part i) tree.no_value) tree.no_args) i
+
+-- one item alone, in parentheses: no aggregate -- Ada RM 4.3.3(10)
+abbrev pub is_item : tree.Args → Bool
+is_item (tree.args (tree.arg s (tree.part i) tree.no_value) tree.no_args) = true
+is_item _ = false
 
 -- the expression of an argument: it stands alone, or after `=>`
 pub data Given : tree.Arg → tree.Item → Type 0 where

@@ -60,7 +60,7 @@ use Rattle.typing_rules.specs.declared.aggregates.Manner.TheVariants as manner
 use Rattle.typing_rules.specs.Aggregates.{all_take, components_for, first_given, gives_value, is_empty, is_only, item_value, last_number, position_range, qualified_node}
 use Rattle.typing_rules.specs.Attributes.{bound, bounded, entry_node, is_mapped, length_at, literal as literal_at, next_value, old_node, position, range_at}
 use Rattle.typing_rules.specs.Calls.{formal_for, is_named, passed, same_type, writable}
-use Rattle.typing_rules.specs.Conditions.{Common, branch_want, chosen, common_of, else_of, if_made, quantifier_of}
+use Rattle.typing_rules.specs.Conditions.{Common, branch_want, chosen, chosen_else, common_of, else_of, if_made, quantifier_of}
 use Rattle.typing_rules.specs.Fits.{takes}
 use Rattle.typing_rules.specs.Forms.{left_want, right_want, suffix_prefix}
 use Rattle.typing_rules.specs.Kinds.{branches_kind, range_kind}
@@ -70,7 +70,7 @@ use Rattle.typing_rules.specs.Ranges.{bounds_reach, member_by, reach_in, static_
 use Rattle.typing_rules.specs.Reading.{arg, args, arms, item, maybe, range, read, suffix}
 use Rattle.typing_rules.specs.Values.{component_subtype, entity_prefix, formals_of, place_of}
 use Rattle.expression_rules.specs.Rules.{Common as CommonType, Gives, GivesOne, Is as HasKind, IsAs, Kind}
-use Rattle.typing_relations.specs.Demanded.{AnyInteger, Begins, Converts, Fits, Given, IsBranch, IsResult, Makes, OfType, Only, Tests, Valued, Covers, IsStatic, MayBeChosen, MayBePlaced, HasBounds, IsArray, IsMapping, WasThere}
+use Rattle.typing_relations.specs.Demanded.{AnyInteger, Begins, Converts, Fits, Given, IsBranch, IsResult, Makes, OfType, Only, Tests, Valued, Covers, IsStatic, MayBeChosen, MayBePlaced, HasBounds, IsArray, IsMapping, WasThere, is_item}
 
 -- a name so far of which nothing is known
 abbrev pub IsOpen : Prefix → Type 0
@@ -85,6 +85,16 @@ branches_want c w as' e = branch_want w (branches_kind (arms c as') (maybe c e))
 abbrev pub common_type : Scope → Want → tree.Arms → tree.MaybeExpr → Common
 common_type c w as' e = common_of c (branches_want c w as' e) (arms c as') (maybe c e)
 
+-- a value that is no part of an object, of which the next part is a value too
+abbrev pub IsNoPart : Prefix → Type 0
+IsNoPart (prefix.Part g) = ⊥
+IsNoPart _ = Unit {0}
+
+abbrev pub IsOut : Mode → Type 0
+IsOut mode.In = ⊥
+IsOut mode.Out = Unit {0}
+IsOut mode.InOut = Unit {0}
+
 mutual
   -- what an expression stands for where the context gives this: a value, or what else a name is
   pub data Stands : Scope → Want → tree.Expr → Prefix → Type 0 where
@@ -96,7 +106,7 @@ mutual
     in_parentheses : (c : Scope) (w : Want) (s : Span) (as' : tree.Args) (i : tree.Item) (u v : Seen) → Only as' i → ItemHas c w i u → IsResult (moved (c.place s.from) u) v
         → Stands c w (tree.at s (tree.group as')) (prefix.Value v)
     -- L16, L17
-    aggregate_is : (c : Scope) (w : Want) (s : Span) (as' : tree.Args) (v : Seen) → Aggregates c (c.place s.from) w as' v → Stands c w (tree.at s (tree.group as')) (prefix.Value v)
+    aggregate_is : (c : Scope) (w : Want) (s : Span) (as' : tree.Args) (v : Seen) → is_item as' ≡ false → Aggregates c (c.place s.from) w as' v → Stands c w (tree.at s (tree.group as')) (prefix.Value v)
     -- L3, L4
     unary : (c : Scope) (w : Want) (s q : Span) (o : UnaryOperator) (a : tree.Expr) (x v : Seen) (k : Kind) → Has c (weaker c.world w) a x → GivesOne c.world x o k → HasKind v k
         → unary_of c.world (c.place s.from) (place_of c (read c a)) o x ≡ v → Stands c w (tree.at s (tree.unary q o a)) (prefix.Value v)
@@ -121,7 +131,7 @@ mutual
         → ItemStands c w (tree.item s (tree.choose as' (tree.an_expr e))) (prefix.Value (Number n))
     -- L9, L26
     chosen_value : (c : Scope) (w : Want) (s : Span) (as' : tree.Arms) (e : tree.MaybeExpr) (xs : List (Arm Expr)) (x : Expr) (v : Seen)
-        → Arms c (branches_want c w as' e) (common_type c w as' e) [] as' xs → Else c (c.place s.from) (branches_want c w as' e) (common_type c w as' e) e x
+        → chosen_else c (branches_want c w as' e) (arms c as') (maybe c e) ≡ None → Arms c (branches_want c w as' e) (common_type c w as' e) [] as' xs → Else c (c.place s.from) (branches_want c w as' e) (common_type c w as' e) e x
         → IsResult (if_made c (c.place s.from) (common_type c w as' e) xs x (chosen xs x)) v → ItemStands c w (tree.item s (tree.choose as' e)) (prefix.Value v)
     -- L23; the index has the range's subtype in the predicate
     quantified : (c : Scope) (w : Want) (s i : Span) (q : Quantifier) (g : tree.Range) (e : tree.Expr) (u : Reach) (b : Between) (x : Expr)
@@ -187,7 +197,7 @@ mutual
         → c.link s.from ≡ None → components_at c.world g.subtype ≡ Some cs → place_among cs (c.name s.from) 0 ≡ Some n
         → Step c w p (prefix.Part g) (tree.selected s) (prefix.Part (record g { subtype = component_subtype (Some cs) n; target = record { place = g.target.place; object = g.target.object; path = g.target.path ++ (step.Component n (length cs) ∷ []) } }))
     value_component : (c : Scope) (w : Want) (p : Place) (f : Prefix) (s : Span) (t : ℕ) (x : Expr) (cs : List Component) (n : ℕ) (v : Seen)
-        → c.link s.from ≡ None → Valued c.world p f (Typed t x) → components_at c.world (subtype_of x) ≡ Some cs → place_among cs (c.name s.from) 0 ≡ Some n
+        → c.link s.from ≡ None → IsNoPart f → Valued c.world p f (Typed t x) → components_at c.world (subtype_of x) ≡ Some cs → place_among cs (c.name s.from) 0 ≡ Some n
         → Makes c.world p (component_subtype (Some cs) n) (node.Component x n) v → Step c w p f (tree.selected s) (prefix.Value v)
     -- L18
     conversion : (c : Scope) (w : Want) (p : Place) (k : ℕ) (as' : tree.Args) (i : tree.Item) (u v : Seen)
@@ -202,7 +212,7 @@ mutual
     object_item : (c : Scope) (w : Want) (p : Place) (g : Part) (as' : tree.Args) (a : Array) (x : Indexed Expr) → array_at c.world g.subtype ≡ Some a → Index c a as' x
         → Step c w p (prefix.Part g) (tree.applied as') (prefix.Part (record g { subtype = a.item; target = record { place = g.target.place; object = g.target.object; path = g.target.path ++ (step.Item a.bounds x ∷ []) } }))
     value_item : (c : Scope) (w : Want) (p : Place) (f : Prefix) (as' : tree.Args) (t : ℕ) (x : Expr) (a : Array) (y : Indexed Expr) (v : Seen)
-        → Valued c.world p f (Typed t x) → array_at c.world (subtype_of x) ≡ Some a → Index c a as' y → Makes c.world p a.item (node.Item x y) v → Step c w p f (tree.applied as') (prefix.Value v)
+        → IsNoPart f → Valued c.world p f (Typed t x) → array_at c.world (subtype_of x) ≡ Some a → Index c a as' y → Makes c.world p a.item (node.Item x y) v → Step c w p f (tree.applied as') (prefix.Value v)
     -- L10, L11: the argument of `'Succ`, `'Pred` and `'Pos`, of the subtype's type, and of `'Val`, of an integer type
     mapped_argument : (c : Scope) (w : Want) (p t : Place) (m : Mapping) (k : ℕ) (as' : tree.Args) (i : tree.Item) (v : Seen) → Only as' i → MapsTo c p t m k i v
         → Step c w p (prefix.Mapping m t k) (tree.applied as') (prefix.Value v)
@@ -280,7 +290,7 @@ mutual
     by_value : (c : Scope) (k : ℕ) (s : Span) (as' : tree.Args) (i : tree.Item) (u : Seen) (x : Fitted Expr)
         → Only as' i → ItemHas c (want.Subtype k) i u → Fits c.world false k (place_of c (item c i)) u x → Qualifies c k s as' x
     by_aggregate : (c : Scope) (k : ℕ) (s : Span) (as' : tree.Args) (u : Seen) (x : Fitted Expr)
-        → Aggregates c (c.place s.from) (want.Subtype k) as' u → Fits c.world false k (c.place s.from) u x → Qualifies c k s as' x
+        → is_item as' ≡ false → Aggregates c (c.place s.from) (want.Subtype k) as' u → Fits c.world false k (c.place s.from) u x → Qualifies c k s as' x
 
   -- what such an attribute with its tick at t gives for an argument; a static value lies in the base range (L29)
   pub data MapsTo : Scope → Place → Place → Mapping → ℕ → tree.Item → Seen → Type 0 where
@@ -308,7 +318,7 @@ mutual
   -- L11: what is passed for a formal of a mode and a subtype; for `out` and `in out` a variable
   pub data Passes : Scope → Mode → ℕ → tree.Item → Actual Expr → Type 0 where
     passed_in : (c : Scope) (k : ℕ) (i : tree.Item) (u : Seen) (x : Fitted Expr) → ItemHas c (want.Subtype k) i u → Fits c.world false k (place_of c (item c i)) u x → Passes c mode.In k i (actual.In x)
-    passed_out : (c : Scope) (m : Mode) (k : ℕ) (i : tree.Item) (g : Part) → ItemStands c want.Free i (prefix.Part g) → writable g.access ≡ true
+    passed_out : (c : Scope) (m : Mode) (k : ℕ) (i : tree.Item) (g : Part) → IsOut m → ItemStands c want.Free i (prefix.Part g) → writable g.access ≡ true
         → same_type (type_at c.world k) (type_at c.world g.subtype) ≡ true → takes c.world false k g.subtype ≡ true → Passes c m k i (passed c m k g)
 
 -- ---- in a reader's words
