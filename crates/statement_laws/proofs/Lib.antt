@@ -1,3 +1,6 @@
 pub mod Telling
 pub mod Indications
 pub mod Definitions
+pub mod Lists
+pub mod Demands
+pub mod Choosing
