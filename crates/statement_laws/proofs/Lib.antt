@@ -4,3 +4,4 @@ pub mod Definitions
 pub mod Lists
 pub mod Demands
 pub mod Choosing
+pub mod Acting
