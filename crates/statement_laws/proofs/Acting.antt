@@ -34,7 +34,7 @@ use Rattle.statement_typing.specs.Subtypes.{heard, part, part_faults}
 use Rattle.statement_typing.specs.Aspects.{condition}
 use Rattle.statement_typing.specs.Pragmas.{checked, checked_faults, ways, ways_faults}
 use Rattle.statement_typing.specs.Choices.{choices_faults, choices_faults_in, cover, cover_faults, has_others, others_last, Selected, selector, selector_want, spreads_in}
-use Rattle.statement_typing.specs.Statements.{a_value, action_at, action_faults, add_after, add_before, add_demand, alternative_of, alternatives_faults, alternatives_onto, another, Around, assignment, assignment_faults, before_group, in_group, after_group, body_faults, body_onto, Body, branches_faults, branches_onto, call_action, case_at, demand_faults, demand_of, empty, ended, entry, exit_faults, exit_of, head_faults, in_loop, in_pragma, inside, invariant, invocation, invocation_faults, is_demand, may_stand, nothing, pragma_by, pragma_faults, return_faults, return_of, returned, returned_faults, Returns, Sort, sort_of, Stage, stage_after, stmt, stmt_faults, stmt_place, stmts_faults, stmts_onto, tested, tested_faults, value_for, value_for_faults, variant, with_demand, with_stmt}
+use Rattle.statement_typing.specs.Statements.{a_value, action_at, action_faults, add_after, add_before, add_demand, alternative_of, alternatives_faults, alternatives_onto, another, Around, assignment, assignment_faults, before_group, in_group, after_group, body_faults, body_onto, Body, branches_faults, branches_onto, call_action, case_at, demand_faults, demand_of, empty, ended, entry, exit_faults, exit_of, head_faults, in_loop, in_pragma, inside, invariant, invocation, invocation_faults, is_demand, may_stand, nothing, pragma_by, pragma_faults, return_faults, return_of, returned, returned_faults, Returns, Sort, sort_of, Stage, stage_after, stmt, stmt_faults, stmt_place, stmts, stmts_faults, stmts_onto, tested, tested_faults, value_for, value_for_faults, variant, with_demand, with_stmt}
 use Rattle.typing_laws.proofs.Merging.{first_after, first_alone, first_as, first_joined}
 use Rattle.typing_laws.proofs.Trees.{call_first, target_first}
 use Rattle.statement_laws.proofs.Telling.{Told, told_both, told_broken, told_heard, told_in, told_part, told_range, told_with}
@@ -285,3 +285,9 @@ mutual
       fs ds (stmt_faults a s) (body_faults a later ss)
       (body_told a later ss (with_demand done d) (fs ++ ds) (told_both add_demand done d fs ds h (demand_told a (stmt_place a s) (sort_of a s))))
       (body_told a later ss (with_stmt t done (stmt a s)) (fs ++ stmt_faults a s) (with_stmt_told t done (stmt a s) fs (stmt_faults a s) h (stmt_told a s)))
+
+pub all_statements : (a : Around) (ss : tree.Stmts) → Told (stmts a ss) (stmts_faults a ss)
+all_statements a ss = stmts_told a ss (Is []) [] refl
+
+pub whole_body : (a : Around) (t : Stage) (ss : tree.Stmts) → Told (body_onto a t (Is empty) ss) (body_faults a t ss)
+whole_body a t ss = body_told a t ss (Is empty) [] refl

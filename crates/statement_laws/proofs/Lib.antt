@@ -5,3 +5,4 @@ pub mod Lists
 pub mod Demands
 pub mod Choosing
 pub mod Acting
+pub mod Programs

@@ -3,4 +3,6 @@
 
 mod laws;
 
-pub use laws::indications_are_first;
+pub use laws::{
+    declarations_are_first, indications_are_first, programs_are_first, statements_are_first,
+};
