@@ -1,9 +1,9 @@
 -- What is told of statements.
-use Rattle.std.proofs.Common.{◌≡◌, refl, List, [], ◌∷◌, ◌++◌, Option, Some, None, Bool, true, false}
+use Rattle.std.proofs.Common.{refl, List, [], ◌++◌, Option, Some, None, Bool, true, false}
 use Rattle.std.specs.Prelude.{ℕ, map, ◌&&◌, if◌then◌else◌}
 use Rattle.ada_text.specs.declared.token.Span.{Span}
 use Rattle.ada_values.specs.declared.place.Place.{Place}
-use Rattle.front_codes.specs.declared.codes.Code.TheVariants.{L8, L9, L13, L21, L22, L24, L25}
+use Rattle.front_codes.specs.declared.codes.Code.TheVariants.{L8, L9, L13, L21, L22, L25}
 use Rattle.front_codes.specs.declared.codes.Refusal.{Refusal}
 use Rattle.name_numbers.specs.declared.words.Word.{Word}
 use Rattle.name_numbers.specs.declared.words.Word.TheVariants as word
@@ -13,7 +13,6 @@ use Rattle.typed_units.specs.declared.statements.Action.{Action}
 use Rattle.typed_units.specs.declared.statements.Action.TheVariants as action
 use Rattle.typed_units.specs.declared.statements.Alternative.{Alternative}
 use Rattle.typed_units.specs.declared.statements.Branch.{Branch}
-use Rattle.typed_units.specs.declared.statements.Demand.{Demand}
 use Rattle.typed_units.specs.declared.statements.Demand.TheVariants as demand
 use Rattle.typed_units.specs.declared.statements.Head.TheVariants as head
 use Rattle.typed_units.specs.declared.statements.Stmt.{Stmt, roll-Stmt}
@@ -23,7 +22,7 @@ use Rattle.type_base.specs.Faults.{First}
 use Rattle.type_base.specs.Scope.{Scope}
 use Rattle.type_base.specs.Standard.{boolean}
 use Rattle.syntax_view.specs.Trees as tree
-use Rattle.typing_rules.specs.Fits.{both, fit, found_fault, with_found}
+use Rattle.typing_rules.specs.Fits.{both, fit, found_fault}
 use Rattle.typing_rules.specs.Reading.{call_seen, faults, seen, target_seen}
 use Rattle.typing_rules.specs.declared.prefix.Found.{Found}
 use Rattle.typing_rules.specs.declared.prefix.Found.TheVariants.{Refused, Unknown, Is}
@@ -34,8 +33,8 @@ use Rattle.statement_typing.specs.Subtypes.{heard, part, part_faults}
 use Rattle.statement_typing.specs.Aspects.{condition}
 use Rattle.statement_typing.specs.Pragmas.{checked, checked_faults, ways, ways_faults}
 use Rattle.statement_typing.specs.Choices.{choices_faults, choices_faults_in, cover, cover_faults, has_others, others_last, Selected, selector, selector_want, spreads_in}
-use Rattle.statement_typing.specs.Statements.{a_value, action_at, action_faults, add_after, add_before, add_demand, alternative_of, alternatives_faults, alternatives_onto, another, Around, assignment, assignment_faults, before_group, in_group, after_group, body_faults, body_onto, Body, branches_faults, branches_onto, call_action, case_at, demand_faults, demand_of, empty, ended, entry, exit_faults, exit_of, head_faults, in_loop, in_pragma, inside, invariant, invocation, invocation_faults, is_demand, may_stand, nothing, pragma_by, pragma_faults, return_faults, return_of, returned, returned_faults, Returns, Sort, sort_of, Stage, stage_after, stmt, stmt_faults, stmt_place, stmts, stmts_faults, stmts_onto, tested, tested_faults, value_for, value_for_faults, variant, with_demand, with_stmt}
-use Rattle.typing_laws.proofs.Merging.{first_after, first_alone, first_as, first_joined}
+use Rattle.statement_typing.specs.Statements.{a_value, action_at, action_faults, add_after, add_before, add_demand, alternative_of, alternatives_faults, alternatives_onto, another, Around, assignment, assignment_faults, before_group, in_group, after_group, body_faults, body_onto, Body, branches_faults, branches_onto, call_action, case_at, demand_faults, demand_of, empty, entry, exit_faults, exit_of, head_faults, in_loop, in_pragma, inside, invariant, invocation, invocation_faults, is_demand, may_stand, nothing, pragma_by, pragma_faults, return_faults, return_of, returned, returned_faults, Returns, Sort, sort_of, Stage, stage_after, stmt, stmt_faults, stmt_place, stmts, stmts_faults, stmts_onto, tested, tested_faults, value_for, value_for_faults, variant, with_demand, with_stmt}
+use Rattle.typing_laws.proofs.Merging.{first_alone, first_joined}
 use Rattle.typing_laws.proofs.Trees.{call_first, target_first}
 use Rattle.statement_laws.proofs.Telling.{Told, told_both, told_broken, told_heard, told_in, told_part, told_range, told_with}
 use Rattle.statement_laws.proofs.Definitions.{fit_hears, told_added}

@@ -1,6 +1,5 @@
 -- What is told of selectors and of the choices of a case statement.
-use Rattle.std.proofs.Common.{◌≡◌, refl, sym, ap, subst, List, [], ◌∷◌, ◌++◌, append_assoc, append-nil, ◌∙◌, Option, Some, None, Bool, true, false}
-use Rattle.std.specs.Prelude.{ℕ, ℤ}
+use Rattle.std.proofs.Common.{refl, sym, ap, subst, List, [], ◌∷◌, ◌++◌, append_assoc, append-nil, ◌∙◌, Option, Some, None, Bool, true}
 use Rattle.ada_values.specs.declared.place.Place.{Place}
 use Rattle.front_codes.specs.declared.codes.Code.TheVariants.{L21}
 use Rattle.front_codes.specs.declared.codes.Refusal.{Refusal}
@@ -11,14 +10,14 @@ use Rattle.type_base.specs.declared.world.World.{World}
 use Rattle.type_base.specs.Demands.{bounds_at}
 use Rattle.type_base.specs.Scope.{Scope}
 use Rattle.syntax_view.specs.Trees as tree
-use Rattle.typing_rules.specs.Fits.{both, found_fault, found_then, with_found}
+use Rattle.typing_rules.specs.Fits.{found_fault, found_then, with_found}
 use Rattle.typing_rules.specs.declared.prefix.Found.{Found}
 use Rattle.typing_rules.specs.declared.prefix.Found.TheVariants.{Refused, Unknown, Is}
 use Rattle.statement_typing.specs.Asked.{low_place, name_prefix, place_of, range_faults, range_seen}
 use Rattle.statement_typing.specs.Checks.{added, all_of, all_onto, fault_after, fault_in}
 use Rattle.statement_typing.specs.Subtypes.{part, part_faults}
 use Rattle.statement_typing.specs.Choices.{any_others, choice_faults, choice_seen, choices_faults, choices_faults_in, cover, cover_by, cover_by_faults, cover_faults, covered, distinct, distinct_faults, fresh, is_range, range_choice, range_choice_faults, Selected, selector, selector_want, single, Spread, spreads, spreads_in, static_between, stretch, twice_fault, value_choice, value_for, values_after}
-use Rattle.typing_laws.proofs.Merging.{first_after, first_alone, first_as, first_in, first_joined}
+use Rattle.typing_laws.proofs.Merging.{first_after, first_alone, first_in, first_joined}
 use Rattle.statement_laws.proofs.Telling.{Hears, Told, told_in, told_part, told_range, told_then, told_with}
 use Rattle.statement_laws.proofs.Definitions.{told_added}
 use Rattle.statement_laws.proofs.Lists.{AllTold, first_crossed, first_further, more_told, none_told, told_if}

@@ -1,13 +1,10 @@
 -- What is told of indexes of arrays, definitions of types, objects and profiles.
 use Rattle.std.proofs.Common.{◌≡◌, refl, List, [], ◌∷◌, ◌++◌, Option, Some, None, Bool, true, false}
-use Rattle.std.specs.Prelude.{ℕ, map, length}
+use Rattle.std.specs.Prelude.{ℕ, map}
 use Rattle.ada_values.specs.declared.place.Place.{Place}
 use Rattle.front_codes.specs.declared.codes.Code.{Code}
 use Rattle.front_codes.specs.declared.codes.Code.TheVariants.{L8, L20, L27}
 use Rattle.front_codes.specs.declared.codes.Refusal.{Refusal}
-use Rattle.typed_units.specs.declared.expressions.Expr.{Expr}
-use Rattle.typed_units.specs.declared.expressions.Fitted.{Fitted}
-use Rattle.type_base.specs.declared.entities.Entity.TheVariants as entity
 use Rattle.type_base.specs.declared.seen.Seen.TheVariants as seen'
 use Rattle.type_base.specs.declared.seen.Want.{Want}
 use Rattle.type_base.specs.declared.seen.Want.TheVariants as want
@@ -17,18 +14,18 @@ use Rattle.type_base.specs.declared.world.World.{World}
 use Rattle.type_base.specs.Lookups.{type_at}
 use Rattle.type_base.specs.Scope.{Scope}
 use Rattle.syntax_view.specs.Trees as tree
-use Rattle.typing_rules.specs.Fits.{both, fit, fit_as, found_fault, found_then, with_found}
+use Rattle.typing_rules.specs.Fits.{both, fit, fit_as, found_fault, found_then}
 use Rattle.typing_rules.specs.Reading.{faults, seen}
 use Rattle.typing_rules.specs.declared.prefix.Found.{Found}
 use Rattle.typing_rules.specs.declared.prefix.Found.TheVariants.{Refused, Unknown, Is}
 use Rattle.statement_typing.specs.Asked.{place_of}
-use Rattle.statement_typing.specs.Checks.{added, all_of, all_onto, and_also, broken, fault_after, fault_in, refuse}
-use Rattle.statement_typing.specs.Subtypes.{bounds, heard, in_order, index_range, index_range_faults, indicated, indicated_faults, mark_of, Mark, Noted, noted_subtype, part, part_faults, part_subtype, part_subtype_faults, static_range, static_range_faults, Static, whole_of, name_place}
-use Rattle.statement_typing.specs.Types.{array_of, definition, definition_faults, Definition, derived_of, discrete_mark, discrete_subtype, discrete_subtype_faults, group, Group, groups_faults, indexes, indexes_by, indexes_by_faults, indexes_faults, Indexes, integer, modular_scalar, modulus, of_range, record_of, signed, signed_bound, signed_bounds, signed_faults, signed_scalar, within_mark, within_mark_faults}
+use Rattle.statement_typing.specs.Checks.{added, all_of, all_onto, and_also, broken, fault_after, refuse}
+use Rattle.statement_typing.specs.Subtypes.{bounds, heard, in_order, index_range, index_range_faults, indicated, indicated_faults, mark_of, Noted, noted_subtype, part, part_faults, part_subtype, part_subtype_faults, static_range, static_range_faults, Static, whole_of, name_place}
+use Rattle.statement_typing.specs.Types.{array_of, definition, definition_faults, derived_of, discrete_mark, discrete_subtype, discrete_subtype_faults, group, Group, groups_faults, indexes, indexes_by, indexes_by_faults, indexes_faults, Indexes, integer, modular_scalar, modulus, of_range, record_of, signed, signed_bound, signed_faults, signed_scalar, within_mark, within_mark_faults}
 use Rattle.statement_typing.specs.Objects.{given, given_faults, initial, initial_faults, named_number, object_subtype, object_subtype_faults}
-use Rattle.statement_typing.specs.Routines.{formals, formals_faults, formals_of, Formals, marked_subtype, mode_of, named_subtype, params_faults, profile, profile_faults, Profile, result_faults, result_mark, result_subtype}
+use Rattle.statement_typing.specs.Routines.{formals, formals_faults, formals_of, Formals, marked_subtype, mode_of, named_subtype, params_faults, profile, profile_faults, result_faults, result_mark, result_subtype}
 use Rattle.typing_laws.proofs.Merging.{first_after, first_alone, first_as, first_joined}
-use Rattle.statement_laws.proofs.Telling.{Hears, Told, told_both, told_broken, told_heard, told_in, told_part, told_range, told_swapped, told_then, told_with}
+use Rattle.statement_laws.proofs.Telling.{Hears, Told, told_both, told_broken, told_heard, told_in, told_part, told_swapped, told_then, told_with}
 use Rattle.statement_laws.proofs.Indications.{both_heard, index_range_told, indicated_told, part_subtype_told, static_range_told, told_two}
 
 -- ---- integer types

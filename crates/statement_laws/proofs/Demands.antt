@@ -1,5 +1,5 @@
 -- What is told of aspects and of pragmas.
-use Rattle.std.proofs.Common.{◌≡◌, refl, List, [], ◌∷◌, ◌++◌, Option, Some, None, Bool, true, false}
+use Rattle.std.proofs.Common.{refl, List, [], ◌∷◌, ◌++◌, Option, Some, None, Bool, true}
 use Rattle.std.specs.Prelude.{ℕ}
 use Rattle.ada_values.specs.declared.place.Place.{Place}
 use Rattle.front_codes.specs.declared.codes.Code.{Code}
@@ -8,7 +8,6 @@ use Rattle.front_codes.specs.declared.codes.Refusal.{Refusal}
 use Rattle.name_numbers.specs.declared.words.Word.{Word}
 use Rattle.name_numbers.specs.declared.words.Word.TheVariants as word
 use Rattle.typed_units.specs.declared.expressions.Expr.{Expr}
-use Rattle.typed_units.specs.declared.programs.GlobalItem.{GlobalItem}
 use Rattle.typed_units.specs.declared.statements.Direction.{Direction}
 use Rattle.typed_units.specs.declared.statements.Way.{Way}
 use Rattle.type_base.specs.declared.seen.Moment.TheVariants as moment
@@ -17,14 +16,14 @@ use Rattle.type_base.specs.declared.world.World.{World}
 use Rattle.type_base.specs.Scope.{Scope}
 use Rattle.type_base.specs.Standard.{boolean}
 use Rattle.syntax_view.specs.Trees as tree
-use Rattle.typing_rules.specs.Fits.{both, found_fault, with_found}
+use Rattle.typing_rules.specs.Fits.{found_fault}
 use Rattle.typing_rules.specs.Reading.{item_seen}
 use Rattle.typing_rules.specs.declared.prefix.Found.{Found}
-use Rattle.typing_rules.specs.declared.prefix.Found.TheVariants.{Refused, Unknown, Is}
+use Rattle.typing_rules.specs.declared.prefix.Found.TheVariants.{Is}
 use Rattle.statement_typing.specs.Asked.{item_faults, item_place}
-use Rattle.statement_typing.specs.Checks.{added, all_of, all_onto, and_also, broken, fault_beyond, fault_in, refuse, unless}
+use Rattle.statement_typing.specs.Checks.{added, all_of, and_also, broken, fault_beyond, fault_in, refuse, unless}
 use Rattle.statement_typing.specs.Files.{Home, place_at, scope}
-use Rattle.statement_typing.specs.Aspects.{aspect_faults, aspect_found, aspect_number, aspects_faults, aspects_found, condition, contract_of, faults_in, global, global_items, item_condition, item_condition_faults, may_stand, post, pre, stated, stated_faults, Stated}
+use Rattle.statement_typing.specs.Aspects.{aspect_faults, aspect_found, aspect_number, aspects_faults, aspects_found, condition, contract_of, faults_in, global, global_items, item_condition, item_condition_faults, may_stand, post, pre, stated, stated_faults}
 use Rattle.statement_typing.specs.Pragmas.{checked, checked_arg, checked_arg_faults, checked_by, checked_by_faults, checked_faults, choice_word, direction_of, moved_value, no_more, no_more_faults, way, way_by, way_by_faults, way_faults, ways, ways_faults, ways_from_faults, ways_onto}
 use Rattle.typing_laws.proofs.Merging.{first_alone, first_joined}
 use Rattle.typing_laws.proofs.Trees.{item_seen_first}

@@ -1,6 +1,6 @@
 -- What is told of static bounds and subtype indications.
-use Rattle.std.proofs.Common.{◌≡◌, refl, List, [], ◌∷◌, ◌++◌, Option, Some, None}
-use Rattle.std.specs.Prelude.{ℕ, ℤ}
+use Rattle.std.proofs.Common.{refl, List, [], ◌++◌, Option, Some, None}
+use Rattle.std.specs.Prelude.{ℕ}
 use Rattle.ada_text.specs.declared.token.Span.{Span}
 use Rattle.ada_values.specs.declared.place.Place.{Place}
 use Rattle.ada_values.specs.declared.scalars.Scalar.{Scalar}
@@ -20,13 +20,13 @@ use Rattle.type_base.specs.Demands.{bounds_at}
 use Rattle.type_base.specs.Lookups.{subtype_at, type_at}
 use Rattle.type_base.specs.Scope.{Scope}
 use Rattle.syntax_view.specs.Trees as tree
-use Rattle.typing_rules.specs.Fits.{both, found_fault, found_then, with_found}
+use Rattle.typing_rules.specs.Fits.{both, found_then}
 use Rattle.typing_rules.specs.Reading.{faults, seen}
 use Rattle.typing_rules.specs.declared.prefix.Found.{Found}
-use Rattle.typing_rules.specs.declared.prefix.Found.TheVariants.{Refused, Unknown, Is}
+use Rattle.typing_rules.specs.declared.prefix.Found.TheVariants.{Unknown}
 use Rattle.statement_typing.specs.Asked.{place_of, range_faults, range_seen}
 use Rattle.statement_typing.specs.Checks.{and_also, broken, fault_after, refuse}
-use Rattle.statement_typing.specs.Subtypes.{bound_in, bounds, bounds_for, constrained, constrained_faults, Constraint, free, heard, in_order, index_range, index_range_faults, indicated, indicated_faults, indication, indication_faults, loose, loose_faults, Mark, mark, mark_of, constraint_of, marked, marked_faults, name_place, new, no_index, no_index_faults, Noted, other, part, part_faults, part_subtype, part_subtype_faults, range_in, range_in_faults, Static, static_range, static_range_faults, static_range_of, to_index, to_range, type_want, unsupported, unsupported_faults, whole_of, with_index, with_index_faults, with_range, with_range_faults}
+use Rattle.statement_typing.specs.Subtypes.{bound_in, bounds, bounds_for, constrained, constrained_faults, Constraint, free, heard, in_order, index_range, index_range_faults, indicated, indicated_faults, indication, indication_faults, loose, loose_faults, Mark, mark, mark_of, constraint_of, marked, marked_faults, name_place, new, no_index, no_index_faults, Noted, other, part, part_faults, part_subtype, part_subtype_faults, range_in, range_in_faults, static_range, static_range_faults, static_range_of, to_index, to_range, type_want, unsupported, unsupported_faults, whole_of, with_index, with_index_faults, with_range, with_range_faults}
 use Rattle.statement_laws.proofs.Telling.{Hears, Told, told_both, told_broken, told_heard, told_part, told_range, told_then, told_with}
 
 -- two parts, and a demand on both

@@ -6,3 +6,4 @@ pub mod Demands
 pub mod Choosing
 pub mod Acting
 pub mod Programs
+pub mod Objects

@@ -1,6 +1,6 @@
 -- The first of broken rules does not depend on the order of the list, nor on how often a rule stands there; and what is told of lists of parts.
 use Rattle.std.proofs.Common.{◌≡◌, refl, sym, ◌∙◌, ap, subst, Bool, true, false, inl, inr, List, [], ◌∷◌, ◌++◌, append_assoc, Option, Some, None}
-use Rattle.std.specs.Prelude.{◌⊎◌, if◌then◌else◌}
+use Rattle.std.specs.Prelude.{if◌then◌else◌}
 use Rattle.front_codes.specs.Codes.{is_before}
 use Rattle.front_codes.specs.declared.codes.Refusal.{Refusal}
 use Rattle.type_base.specs.Faults.{First, IsIn, NoneBefore}
@@ -9,7 +9,7 @@ use Rattle.typing_rules.specs.declared.prefix.Found.{Found}
 use Rattle.statement_typing.specs.Checks.{added, all_onto, fault_in}
 use Rattle.statement_typing.specs.Aspects.{faults_in}
 use Rattle.typing_laws.proofs.Merging.{first_alone, first_in, first_joined}
-use Rattle.statement_laws.proofs.Telling.{Told, told_both, told_in}
+use Rattle.statement_laws.proofs.Telling.{Told, told_in}
 use Rattle.statement_laws.proofs.Definitions.{told_added}
 
 -- ---- lists with the same rules

@@ -1,9 +1,9 @@
 -- What is answered of a program.
-use Rattle.std.proofs.Common.{◌≡◌, refl, sym, ◌∙◌, ap, subst, List, [], ◌∷◌, ◌++◌, Option, Some, None}
+use Rattle.std.proofs.Common.{◌≡◌, refl, ap, subst, List, [], ◌∷◌, ◌++◌, Option, Some, None}
 use Rattle.std.specs.Prelude.{ℕ}
 use Rattle.front_codes.specs.Codes.{first_of_two}
 use Rattle.front_codes.specs.declared.codes.Refusal.{Refusal}
-use Rattle.type_base.specs.Faults.{First, listed}
+use Rattle.type_base.specs.Faults.{First}
 use Rattle.type_base.proofs.Firsts.{first_both, first_listed}
 use Rattle.statement_typing.specs.declared.draft.Draft.{Draft}
 use Rattle.statement_typing.specs.Files.{File}

@@ -1,10 +1,10 @@
 -- What is told of parts, as the first of their broken rules, where they are put together.
-use Rattle.std.proofs.Common.{◌≡◌, refl, sym, ◌∙◌, ap, List, [], ◌∷◌, ◌++◌, Option, Some, None}
+use Rattle.std.proofs.Common.{◌≡◌, refl, ◌∙◌, List, [], ◌++◌, Some, None}
 use Rattle.front_codes.specs.declared.codes.Code.{Code}
 use Rattle.front_codes.specs.declared.codes.Refusal.{Refusal}
 use Rattle.ada_values.specs.declared.place.Place.{Place}
 use Rattle.type_base.specs.Demands as demands
-use Rattle.type_base.specs.Faults.{First, fault_of, listed}
+use Rattle.type_base.specs.Faults.{First, fault_of}
 use Rattle.type_base.specs.Scope.{Scope}
 use Rattle.type_base.specs.declared.seen.Seen.{Seen}
 use Rattle.type_base.specs.declared.seen.Seen.TheVariants as seen'
@@ -16,7 +16,7 @@ use Rattle.typing_rules.specs.declared.prefix.Found.TheVariants as found
 use Rattle.typing_rules.specs.Fits.{both, found_fault, found_then, with_found}
 use Rattle.typing_rules.specs.Reading.{faults, seen}
 use Rattle.statement_typing.specs.Asked.{of_wanted, number_type, range_between, range_faults, range_seen}
-use Rattle.statement_typing.specs.Checks.{added, all_onto, and_also, broken, fault_after, fault_beyond, fault_in, refuse, unless}
+use Rattle.statement_typing.specs.Checks.{broken, fault_after, fault_beyond, fault_in}
 use Rattle.statement_typing.specs.Subtypes.{heard, part, part_faults}
 use Rattle.typing_laws.specs.Broken as laws
 use Rattle.typing_laws.proofs.Merging.{first_after, first_alone, first_as, merge_swapped}

@@ -1,6 +1,6 @@
 //! Which refusal a declaration or a statement gives.
 
-ghost use Rattle.std.specs.Prelude.{◌≡◌, ℕ, Bool, Option, Some, List, []};
+ghost use Rattle.std.specs.Prelude.{◌≡◌, ℕ, Bool, Option, Some, None, List, []};
 ghost use Rattle.ada_values.specs.declared.place.Place.{Place};
 ghost use Rattle.ada_values.specs.declared.scalars.Scalar.{Scalar};
 ghost use Rattle.front_codes.specs.declared.codes.Code.{Code};
@@ -12,14 +12,15 @@ ghost use Rattle.type_base.specs.Scope.{Scope};
 ghost use Rattle.type_base.specs.declared.seen.Want.{Want};
 ghost use Rattle.type_base.specs.declared.seen.Want.TheVariants as want;
 ghost use Rattle.type_base.specs.declared.world.World.{World};
-ghost use Rattle.typing_rules.specs.Fits.{found_fault};
+ghost use Rattle.typing_rules.specs.Fits.{found_fault, found_then};
 ghost use Rattle.typing_rules.specs.declared.prefix.Found.TheVariants.{Is};
+ghost use Rattle.statement_typing.specs.declared.draft.Draft.{Draft};
 ghost use Rattle.statement_typing.specs.Asked.{place_of, range_faults, range_seen};
 ghost use Rattle.statement_typing.specs.Aspects.{aspects_faults, aspects_found, faults_in, global_items, item_condition, item_condition_faults, stated, stated_faults};
 ghost use Rattle.statement_typing.specs.Checks.{all_of};
 ghost use Rattle.statement_typing.specs.Choices.{choice_faults, choice_seen};
 ghost use Rattle.statement_typing.specs.Files.{File, Home};
-ghost use Rattle.statement_typing.specs.Objects.{initial, initial_faults, named_number, object_subtype, object_subtype_faults};
+ghost use Rattle.statement_typing.specs.Objects.{entered_by, initial, initial_faults, named_number, object_faults_as, object_subtype, object_subtype_faults, object_value, present, settled_value};
 ghost use Rattle.statement_typing.specs.Pragmas.{checked, checked_faults, ways, ways_faults};
 ghost use Rattle.statement_typing.specs.Routines.{profile, profile_faults};
 ghost use Rattle.statement_typing.specs.Statements.{Around, Stage, body_faults, body_onto, empty, stmt, stmt_faults, stmts, stmts_faults};
@@ -46,6 +47,8 @@ pub fn declarations_are_first()
     ensures subtypes { (c : Scope) (p : Place) (s : tree.SubInd) → First (found_fault (object_subtype c p s)) (object_subtype_faults c p s) }
     ensures values { (c : Scope) (p : Place) (b : Bool) (w : Want) (k : ℕ) (e : Option tree.Expr) → First (found_fault (initial c p b w k e)) (initial_faults c p b w k e) }
     ensures numbers { (c : Scope) (e : tree.Expr) → First (found_fault (part c want.Free e (named_number c.world (place_of c e)))) (part_faults c want.Free e (named_number c.world (place_of c e))) }
+    ensures local_objects { (h : Home) (q : ℕ) → h.own ≡ Some q → (p : Place) (b : Bool) (s : tree.SubInd) (v : Option tree.Expr) (d : Draft) → First (found_fault (object_value h p b v (object_subtype (present h d) p s) (entered_by (object_subtype (present h d) p s) d))) (object_faults_as h p b (Some s) v d) }
+    ensures package_objects { (h : Home) → h.own ≡ None → (p : Place) (b : Bool) (s : tree.SubInd) (v : Option tree.Expr) (d : Draft) → First (found_fault (found_then (object_value h p b v (object_subtype (present h d) p s) (entered_by (object_subtype (present h d) p s) d)) (settled_value (present h (entered_by (object_subtype (present h d) p s) d).draft) v))) (object_faults_as h p b (Some s) v d) }
     ensures profiles { (c : Scope) (h : tree.Heading) → First (found_fault (profile c h)) (profile_faults c h) }
     ensures globals { (h : Home) (c : Scope) (i : tree.Item) → First (found_fault (all_of (global_items h c i))) (faults_in (global_items h c i)) }
     ensures aspect_values { (h : Home) (w : World) (p : Place) (a : Option Word) (i : Option tree.Item) → First (found_fault (stated h w p a i)) (stated_faults h w p a i) }

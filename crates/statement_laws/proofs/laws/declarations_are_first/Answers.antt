@@ -1,3 +1,4 @@
+use Rattle.statement_laws.proofs.Objects.{local_told, package_told}
 use Rattle.statement_laws.proofs.Definitions.{definition_told, indexes_told, initial_told, named_told, object_subtype_told, profile_told}
 use Rattle.statement_laws.proofs.Demands.{aspects_told, globals_told, stated_told}
 use Rattle.statement_laws.proofs.laws.declarations_are_first.Goals as goal
@@ -28,3 +29,9 @@ returns-clause-aspect_values c = stated_told
 
 pub returns-clause-aspects : goal.returns-clause-aspects
 returns-clause-aspects c = aspects_told
+
+pub returns-clause-local_objects : goal.returns-clause-local_objects
+returns-clause-local_objects c = local_told
+
+pub returns-clause-package_objects : goal.returns-clause-package_objects
+returns-clause-package_objects c = package_told
