@@ -1,6 +1,7 @@
 -- The files of a program and where declarations stand, in the words of the rules.
-use Rattle.std.specs.Prelude.{ℕ, List, take, drop}
-use Rattle.ada_text.specs.Bytes.{numeral_length}
+use Rattle.std.specs.Prelude.{ℕ, Bool, ◌||◌, ◌==◌, List, take, drop}
+use Rattle.std.specs.Char.{is_ascii_alphanumeric}
+use Rattle.std.specs.List.{prefix_len}
 use Rattle.name_links.specs.Links.{link_at}
 use Rattle.name_numbers.specs.Numbers.{number_at, word_of}
 use Rattle.program_scope.specs.declared.file.File as code
@@ -10,9 +11,13 @@ use Rattle.statement_typing.specs.Files.{File, Home}
 use Rattle.syntax_view.specs.View.{source_unit}
 use Rattle.text_lines.specs.Lines as lines
 
--- letters and digits, with single underlines between them, from a byte on -- Ada RM 2.3
+-- a letter, a digit or an underline
+abbrev pub is_in_name : ℕ → Bool
+is_in_name b = is_ascii_alphanumeric b || b == 95
+
+-- the identifier from a byte on, which ends where no letter, digit or underline follows -- Ada RM 2.3
 abbrev pub spelled_at : List ℕ → ℕ → List ℕ
-spelled_at text at = take (numeral_length 36 (drop at text)) (drop at text)
+spelled_at text at = take (prefix_len is_in_name (drop at text)) (drop at text)
 
 abbrev pub file_of : code.File → File
 file_of f = record {

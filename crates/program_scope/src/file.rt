@@ -1,7 +1,8 @@
 //! A file of a program, as the stage of names leaves it.
 
-ghost use Rattle.std.specs.Prelude.{◌≡◌};
-ghost use Rattle.program_scope.specs.Homes.{file_of};
+ghost use Rattle.std.specs.Prelude.{◌≡◌, ◌≤◌, length};
+ghost use Rattle.std.specs.List.{prefix_len};
+ghost use Rattle.program_scope.specs.Homes.{file_of, is_in_name};
 ghost use Rattle.statement_typing.specs.Files.{spot_of};
 ghost use Rattle.statement_typing.specs.Units.{is_first};
 
@@ -23,6 +24,19 @@ pub struct File<'a> {
     /// The links of the whole program.
     pub links: &'a Links,
     pub names: &'a NameTable,
+}
+
+/// How many bytes at the front are letters, digits and underlines.
+fn name_length(bytes: &[u8]) -> usize
+    ensures value { result ≡ prefix_len is_in_name bytes.now }
+    ensures within { result ≤ length bytes.now }
+{
+    for (at, byte) in bytes.iter().enumerate() {
+        if !(byte.is_ascii_alphanumeric() || *byte == b'_') {
+            return at;
+        }
+    }
+    bytes.len()
 }
 
 impl<'a> File<'a> {
@@ -55,6 +69,18 @@ impl<'a> File<'a> {
         ensures { result ≡ (file_of self.now).word at }
     {
         word_of(self.names.number_at(at))
+    }
+
+    /// The bytes of the identifier at a byte; none past the end of the text.
+    pub fn spelled(&self, at: u32) -> &[u8]
+        ensures { result.now ≡ (file_of self.now).spelled at }
+    {
+        let at = at as usize;
+        if at >= self.text.len() {
+            return &[];
+        }
+        let rest = &self.text[at..];
+        &rest[..name_length(rest)]
     }
 
     /// Whether what an identifier declares has no declaration before it.
