@@ -2,6 +2,8 @@
 #![tactic(auto)]
 
 mod entering;
+mod objects;
 
 pub use entering::{declare, declare_all};
+pub use objects::with_constant;
 pub use std::alloc::AllocError as Starved;
