@@ -1,0 +1,19 @@
+-- The statements of a loop, in the words of the rules.
+use Rattle.std.specs.Prelude.{Bool, true, false}
+use Rattle.typing_rules.specs.declared.prefix.Found.{Found}
+use Rattle.typing_rules.specs.Fits.{with_found}
+use Rattle.statement_rules.specs.declared.stages.LoopBody as code
+use Rattle.statement_rules.specs.declared.stages.Stage as place
+use Rattle.statement_rules.specs.declared.stages.Stage.TheVariants as stage
+use Rattle.statement_typing.specs.Statements.{Body, Stage, after_group, before_group, in_group}
+
+abbrev pub stage_as : place.Stage → Stage
+stage_as stage.BeforeGroup = before_group
+stage_as (stage.InGroup b) = in_group b
+stage_as stage.AfterGroup = after_group
+
+abbrev pub body_from : code.LoopBody → Body
+body_from b = record { before = b.before; group = b.group; after = b.after }
+
+abbrev pub bodies : Found code.LoopBody → Found Body
+bodies = with_found body_from
