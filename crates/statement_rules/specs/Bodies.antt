@@ -1,5 +1,4 @@
 -- The statements of a loop, in the words of the rules.
-use Rattle.std.specs.Prelude.{Bool, true, false}
 use Rattle.typing_rules.specs.declared.prefix.Found.{Found}
 use Rattle.typing_rules.specs.Fits.{with_found}
 use Rattle.statement_rules.specs.declared.stages.LoopBody as code

@@ -1,4 +1,4 @@
-use Rattle.std.proofs.Common.{◌≡◌, ap, ◌∙◌}
+use Rattle.std.proofs.Common.{ap, ◌∙◌}
 use Rattle.type_base.specs.declared.seen.Seen.{Seen}
 use Rattle.statement_typing.specs.Pragmas.{as_integer, integer_seen}
 use Rattle.statement_rules.proofs.Integers.{integer_found}
