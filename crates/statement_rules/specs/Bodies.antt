@@ -4,7 +4,10 @@ use Rattle.typing_rules.specs.Fits.{with_found}
 use Rattle.statement_rules.specs.declared.stages.LoopBody as code
 use Rattle.statement_rules.specs.declared.stages.Stage as place
 use Rattle.statement_rules.specs.declared.stages.Stage.TheVariants as stage
-use Rattle.statement_typing.specs.Statements.{Body, Stage, after_group, before_group, in_group}
+use Rattle.statement_rules.specs.declared.sorts.Sort as pragma
+use Rattle.statement_rules.specs.declared.sorts.Sort.TheVariants as sort
+use Rattle.statement_typing.specs.Statements.{Body, Sort, Stage, after_group, another, before_group, in_group, invariant, variant}
+use Rattle.syntax_view.specs.View.{args_of, expr}
 
 abbrev pub stage_as : place.Stage → Stage
 stage_as stage.BeforeGroup = before_group
@@ -16,3 +19,8 @@ body_from b = record { before = b.before; group = b.group; after = b.after }
 
 abbrev pub bodies : Found code.LoopBody → Found Body
 bodies = with_found body_from
+
+abbrev pub sort_as : pragma.Sort → Sort
+sort_as (sort.Invariant as') = invariant (args_of expr as'.now)
+sort_as (sort.Variant as') = variant (args_of expr as'.now)
+sort_as sort.Another = another

@@ -1,11 +1,19 @@
 //! Whether the statements of a function end with `return`, and whether those of a loop leave it (Ada RM 6.5).
 
 ghost use Rattle.std.specs.Prelude.{◌≡◌};
-ghost use Rattle.statement_typing.specs.Statements.{alternatives_end, alternatives_exit, branches_end, branches_exit, ends, exits, has_exit, returns};
+ghost use Rattle.reading_scope.specs.Scopes.{scope_of};
+ghost use Rattle.statement_rules.specs.Arounds.{returns_of};
+ghost use Rattle.statement_typing.specs.Statements.{alternatives_end, alternatives_exit, branches_end, branches_exit, ended, ends, exits, has_exit, last_place, returns};
 ghost use Rattle.syntax_view.specs.View.{alternatives_of, branches_of, stmt, stmts_of};
 
+use crate::around::Returns;
+use crate::checks::unless;
 use ada_syntax::{Action, Alternative, Branch, LoopHead, Stmt};
+use ada_values::Place;
+use reading_scope::Scope;
 use sqlite_items::Items;
+use type_base::Code;
+use typing_rules::Found;
 
 /// Whether an `exit` of the loop whose statements these are stands in them.
 #[cycle(exits)]
@@ -105,5 +113,34 @@ pub fn returns(statement: &Stmt) -> bool
         Action::Case(_, alternatives) => alternatives_end(alternatives),
         Action::Loop(LoopHead::Forever, body) => !has_exit(body),
         _ => false,
+    }
+}
+
+/// The place of the last of some statements; `place` where there are none.
+fn last_place(scope: &Scope, place: Place, statements: &[Stmt]) -> Place
+    ensures { result ≡ last_place (scope_of scope.now) place (stmts_of stmt statements.now) }
+{
+    match statements {
+        [] => place,
+        [.., last] => scope.place(last.span.from),
+    }
+}
+
+/// Whether a subprogram's statements end as it is to: L13 is broken at the last statement of a function that doesn't end with
+/// `return`, or at `place`, that of its name, where it has none.
+pub fn ended(
+    scope: &Scope,
+    place: Place,
+    subprogram: &Returns,
+    statements: &Items<Stmt>,
+) -> Found<bool>
+    ensures { result ≡ ended (scope_of scope.now) place (returns_of subprogram.now) (stmts_of stmt statements.now) }
+{
+    match subprogram {
+        Returns::Nothing => Found::Is(true),
+        Returns::Value(_) => {
+            let last = last_place(scope, place, statements.as_slice());
+            unless(ends(statements), Code::L13, last, true)
+        }
     }
 }

@@ -8,6 +8,7 @@ mod conditions;
 mod demanded;
 mod endings;
 mod returned;
+mod sorts;
 mod stages;
 
 pub use around::{Around, Loop, Returns, moment_in};
@@ -15,9 +16,10 @@ pub use assigned::{assignment_read, call_action, value_for_read, value_want};
 pub use checks::{and_also, heard, refuse, unless, with_refused, with_unknown};
 pub use conditions::{condition, truth_seen};
 pub use demanded::{assert_read, assume_read, checked_by, direction_of, moved_value, way_by};
-pub use endings::{ends, exits, has_exit, returns};
+pub use endings::{ended, ends, exits, has_exit, returns};
 pub use returned::{
     exit_alone, exit_when, return_alone, return_read, return_want, returned_read, returned_want,
 };
+pub use sorts::{Sort, sort_of};
 pub use stages::{LoopBody, Stage, add_demand, loop_read, with_demand, with_stmt};
 pub use type_base::Starved;
