@@ -3,12 +3,12 @@
 ghost use Rattle.std.specs.Prelude.{◌≡◌, map};
 ghost use Rattle.front_codes.specs.declared.codes.Code.TheVariants.{L21};
 ghost use Rattle.statement_rules.specs.Cases.{found_as};
-ghost use Rattle.statement_typing.specs.Choices.{has_others, is_others, is_range, selected_as, selector_want};
-ghost use Rattle.syntax_view.specs.View.{case_choice_of};
+ghost use Rattle.statement_typing.specs.Choices.{any_others, has_others, is_others, is_range, selected_as, selector_want};
+ghost use Rattle.syntax_view.specs.View.{alternatives_of, case_choice_of, stmt};
 ghost use Rattle.type_base.specs.Demands.{operand};
 ghost use Rattle.type_base.specs.declared.seen.Demand.TheVariants as demand;
 
-use ada_syntax::Choice as Written;
+use ada_syntax::{Alternative, Choice as Written, Stmt};
 use ada_values::Place;
 use type_base::{Code, Demand, Refusal, Seen, Want, World, operand};
 use typed_units::Expr;
@@ -95,6 +95,19 @@ pub fn has_others(mut choices: &[Written]) -> bool
             return true;
         }
         choices = rest;
+    }
+    false
+}
+
+/// Whether `others` is among the choices of alternatives.
+pub fn any_others(mut alternatives: &[Alternative<Stmt>]) -> bool
+    ensures { result ≡ any_others (alternatives_of stmt alternatives.entry.now) }
+{
+    while let [first, rest @ ..] = alternatives {
+        if has_others(first.choices.as_slice()) {
+            return true;
+        }
+        alternatives = rest;
     }
     false
 }
