@@ -1,3 +1,4 @@
+pub mod CaseParts
 pub mod Integers
 pub mod LastOnes
 pub mod ReadParts

@@ -1,17 +1,23 @@
 //! The selector and the choices of a `case` (Ada RM 3.8.1, 5.4).
 
 ghost use Rattle.std.specs.Prelude.{◌≡◌, map};
+ghost use Rattle.ada_values.specs.declared.place.Place.{Place};
 ghost use Rattle.front_codes.specs.declared.codes.Code.TheVariants.{L21};
 ghost use Rattle.statement_rules.specs.Cases.{found_as};
 ghost use Rattle.statement_typing.specs.Choices.{any_others, has_others, is_others, is_range, selected_as, selector_want};
+ghost use Rattle.statement_typing.specs.Statements.{case_at};
 ghost use Rattle.syntax_view.specs.View.{alternatives_of, case_choice_of, stmt};
+ghost use Rattle.typed_units.specs.declared.statements.Action.TheVariants as action;
+ghost use Rattle.typing_rules.specs.Fits.{both, with_found};
 ghost use Rattle.type_base.specs.Demands.{operand};
 ghost use Rattle.type_base.specs.declared.seen.Demand.TheVariants as demand;
 
-use ada_syntax::{Alternative, Choice as Written, Stmt};
+use crate::checks::{and_also, with_refused, with_unknown};
+use ada_syntax::{Alternative as Whens, Choice as Written, Stmt as Statement};
 use ada_values::Place;
+use sqlite_items::Items;
 use type_base::{Code, Demand, Refusal, Seen, Want, World, operand};
-use typed_units::Expr;
+use typed_units::{Action, Alternative, Expr, Stmt};
 use typing_rules::{Found, Prefix};
 
 /// A selector: the numbers of its type and of its subtype, and itself.
@@ -100,7 +106,7 @@ pub fn has_others(mut choices: &[Written]) -> bool
 }
 
 /// Whether `others` is among the choices of alternatives.
-pub fn any_others(mut alternatives: &[Alternative<Stmt>]) -> bool
+pub fn any_others(mut alternatives: &[Whens<Statement>]) -> bool
     ensures { result ≡ any_others (alternatives_of stmt alternatives.entry.now) }
 {
     while let [first, rest @ ..] = alternatives {
@@ -110,4 +116,49 @@ pub fn any_others(mut alternatives: &[Alternative<Stmt>]) -> bool
         alternatives = rest;
     }
     false
+}
+
+fn case_of(selector: Expr, alternatives: Found<Items<Alternative<Stmt>>>) -> Found<Action<Stmt>>
+    ensures { result ≡ with_found (λ ys. action.Case selector ys) alternatives }
+{
+    match alternatives {
+        Found::Is(alternatives) => Found::Is(Action::Case(selector, alternatives)),
+        Found::Unknown => {
+            drop(selector);
+            Found::Unknown
+        }
+        Found::Refused(refusal) => {
+            drop(selector);
+            Found::Refused(refusal)
+        }
+    }
+}
+
+fn case_made(
+    selector: Found<Selected>,
+    alternatives: Found<Items<Alternative<Stmt>>>,
+) -> Found<Action<Stmt>>
+    ensures { result ≡ both (λ x ys. action.Case x.value ys) selector alternatives }
+{
+    match selector {
+        Found::Refused(refusal) => with_refused(refusal, alternatives),
+        Found::Unknown => with_unknown(alternatives),
+        Found::Is(selected) => {
+            let Selected { value, .. } = selected;
+            case_of(value, alternatives)
+        }
+    }
+}
+
+/// A `case`, of its selector, what is refused of its `others` and of its choices together, and its alternatives.
+pub fn case_read(
+    selector: Found<Selected>,
+    others: Found<bool>,
+    cover: Found<bool>,
+    alternatives: Found<Items<Alternative<Stmt>>>,
+) -> Found<Action<Stmt>>
+    ensures { (p : Place) → result ≡ case_at p (found_as selector) others cover alternatives }
+{
+    let heard = and_also(and_also(selector, others), cover);
+    case_made(heard, alternatives)
 }
