@@ -1,0 +1,4 @@
+pub mod CaseParts
+pub mod Integers
+pub mod LastOnes
+pub mod ReadParts

@@ -1,0 +1,4 @@
+pub mod Arounds
+pub mod Bodies
+pub mod Cases
+pub mod Reads
