@@ -1,10 +1,14 @@
 -- What the walk does with the parts is what the rules say.
-use Rattle.std.proofs.Common.{◌≡◌, refl, sym, ap, ℕ, ◌+◌, ◌<◌, ◌≤◌, true, false, List, [], ◌∷◌, length, drop, get_or, Option, Some, None}
+use Rattle.std.proofs.Common.{◌≡◌, refl, sym, ap, ◌∙◌, ℕ, ◌+◌, ◌<◌, ◌≤◌, true, false, List, [], ◌∷◌, length, drop, get_or, Option, Some, None}
 use Rattle.std.specs.Prelude.{if◌then◌else◌}
 use Rattle.std.proofs.lemmas.List.{drop_more}
 use Rattle.ada_syntax.specs.declared.expressions.Arg.{Arg as Written}
 use Rattle.ada_syntax.specs.declared.expressions.Expr.{Expr}
 use Rattle.ada_values.specs.declared.place.Place.{Place}
+use Rattle.syntax_view.specs.Trees as tree
+use Rattle.type_base.specs.Demands.{operand}
+use Rattle.type_base.specs.Standard.{boolean}
+use Rattle.type_base.specs.declared.seen.Demand.TheVariants as demand
 use Rattle.syntax_view.specs.View.{arg_of, args_of, expr}
 use Rattle.type_base.specs.Scope.{Scope}
 use Rattle.type_base.specs.declared.seen.Family.{Family}
@@ -22,11 +26,14 @@ use Rattle.typing_rules.specs.Aggregates.{grouped, aggregate, qualified_by, qual
 use Rattle.typing_rules.specs.Calls.{arguments, operand_of}
 use Rattle.typing_rules.specs.Fits.{fit}
 use Rattle.typing_rules.specs.Forms.{left_want, right_want}
-use Rattle.typing_rules.specs.Lookups.{Array}
+use Rattle.type_base.specs.declared.seen.Parameter.{Parameter}
+use Rattle.typing_rules.specs.Lookups.{Array, with_index}
 use Rattle.typing_rules.specs.Names.{after_unknown, function_call, indexed_call, operand_beside, only_operand}
 use Rattle.typing_rules.specs.Parts.{Arg, Operand}
-use Rattle.typing_rules.specs.Reading.{arg, args}
-use Rattle.typing_rules.specs.Values.{call_value}
+use Rattle.typing_rules.specs.Conditions.{condition}
+use Rattle.typing_rules.specs.Ranges.{found_expr}
+use Rattle.typing_rules.specs.Reading.{arg, args, read}
+use Rattle.typing_rules.specs.Values.{call_value, place_of, value_of}
 use Rattle.expression_kinds.proofs.Alone.{many}
 use Rattle.operand_rules.specs.Operands.{read_maybe, value_read}
 use Rattle.operand_rules.specs.declared.operands.ReadOperand.{ReadOperand}
@@ -90,3 +97,11 @@ qualified_some c p k t as' None r h = absurd (none_some r h)
 pub qualified_none : (c : Scope) (p : Place) (k : ℕ) (t : Place) (as' : List Arg) (o : Option Operand) → read_maybe c (want.Subtype k) o ≡ None → qualified_as c p k (fit c.world code.L18 false k t (aggregate c t (want.Subtype k) as')) ≡ qualified_by c p k t as' o
 qualified_none c p k t as' None h = refl
 qualified_none c p k t as' (Some o) h = absurd (none_some _ (sym h))
+
+-- the scope of a predicate
+pub inner : (c : Scope) (at k j : ℕ) (ps : List Parameter) → ps ≡ (with_index c at k).parameters → k ≡ j → record c { parameters = ps } ≡ with_index c at j
+inner c at k j ps h e = ap (λ (qs : List Parameter). record c { parameters = qs }) h ∙ ap (with_index c at) e
+
+-- a predicate, which is read in its scope
+pub predicate : (c : Scope) (at k j : ℕ) (ps : List Parameter) (e : tree.Expr) → ps ≡ (with_index c at k).parameters → k ≡ j → found_expr (operand c.world demand.Truth code.L23 (place_of (record c { parameters = ps }) (read (record c { parameters = ps }) e)) (value_of c (place_of (record c { parameters = ps }) (read (record c { parameters = ps }) e)) ((read (record c { parameters = ps }) e).prefix (want.Type boolean)))) ≡ condition c code.L23 (read (with_index c at j) e)
+predicate c at k j ps e h i = ap (λ (d : Scope). found_expr (operand c.world demand.Truth code.L23 (place_of d (read d e)) (value_of c (place_of d (read d e)) ((read d e).prefix (want.Type boolean))))) (inner c at k j ps h i)

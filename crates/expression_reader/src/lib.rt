@@ -3,6 +3,7 @@
 
 mod entries;
 mod parts;
+mod sorts;
 mod walk;
 
 pub use entries::{call_seen, range_seen, target_seen};

@@ -6,10 +6,10 @@ ghost use Rattle.reading_scope.specs.Scopes.{scope_of};
 ghost use Rattle.syntax_view.specs.View.{expr, range_of};
 ghost use Rattle.typing_rules.specs.declared.prefix.Prefix.TheVariants as prefix';
 ghost use Rattle.typing_rules.specs.Aggregates.{no_subtype, qualified_as};
-ghost use Rattle.typing_rules.specs.Fits.{fit};
+ghost use Rattle.typing_rules.specs.Fits.{fit, with_found};
 ghost use Rattle.typing_rules.specs.Forms.{outer_want};
 ghost use Rattle.typing_rules.specs.Lookups.{array_at, with_index};
-ghost use Rattle.typing_rules.specs.Ranges.{high_place};
+ghost use Rattle.typing_rules.specs.Ranges.{choice_range, high_place, member_by};
 ghost use Rattle.typing_rules.specs.Reading as reading;
 ghost use Rattle.typing_rules.specs.Values.{value_of};
 ghost use Rattle.expression_reader.specs.Reader.{is_indexed, left_want_by, right_want_by};
@@ -22,12 +22,13 @@ use front_codes::Code;
 use name_library::Spot;
 use name_values::value_of;
 use operand_rules::expression_place;
-use range_rules::{want_or, weaker};
+use range_rules::{choice_range, member_by, want_or, weaker};
 use reading_scope::Scope;
 use sqlite_items::Items;
 use std::alloc::Global;
-use type_base::{Family, Form, Formal, INTEGER_BASE, Index, Seen, Want, World};
-use typing_rules::{Gives, Prefix};
+use type_base::{Family, Form, Formal, INTEGER_BASE, Parameter, Seen, Want, World};
+use typed_units::{Bounds, Choice, Object};
+use typing_rules::{Found, Gives, Prefix, Reach};
 use value_rules::fit;
 
 /// A list of numbers with one more in front. `Err` where memory was refused.
@@ -100,28 +101,58 @@ pub(crate) fn high_place(scope: &Scope, range: &Range<Expr>) -> Place
     }
 }
 
-/// The indexes around, with one more in front, which stands at a byte. `Err` where memory was refused.
+/// The parameters and indexes around, with one more index in front, which stands at a byte. `Err` where memory was refused.
 pub(crate) fn with_one_index(
     alloc: Global,
     scope: &Scope,
     at: u32,
     subtype: u32,
-) -> Result<Items<Index>, Starved>
-    ensures { IfOk result (λ all. all ≡ (with_index (scope_of scope.now) at subtype).indexes) }
+) -> Result<Items<Parameter>, Starved>
+    ensures { IfOk result (λ all. all ≡ (with_index (scope_of scope.now) at subtype).parameters) }
 {
-    let index = Index {
+    let index = Parameter {
         spot: Spot {
             file: scope.place(at).file,
             at,
         },
         subtype,
-        number: scope.number(at),
+        object: Object::Index(scope.number(at)),
     };
-    let outer = Items::from_slice(alloc, scope.indexes)?;
+    let outer = Items::from_slice(alloc, scope.parameters)?;
     let mut all = Items::new(alloc);
     all.push(index)?;
     all.append(outer)?;
     Ok(all)
+}
+
+/// A membership test, by what is seen of what is tested and what the range reaches over. `Err` where memory was refused.
+#[tactic(auto, using(range_rules::proofs::Placed::member_by_placed))]
+pub(crate) fn member_read(
+    alloc: Global,
+    scope: &Scope,
+    place: Place,
+    is: bool,
+    tested: Place,
+    range: &Range<Expr>,
+    seen: Seen,
+    reach: Reach,
+) -> Result<Seen, Starved>
+    ensures { IfOk result (λ s. s ≡ member_by (scope_of scope.now) place is tested (reading.range (scope_of scope.now) (range_of expr range.now)) seen reach) }
+{
+    let low = expression_place(scope, &range.low);
+    let high = high_place(scope, range);
+    member_by(alloc, scope, place, is, tested, low, high, seen, reach)
+}
+
+/// The numbers that a choice has.
+pub(crate) fn bounds_chosen(choice: Found<Choice>) -> Found<Bounds>
+    ensures { result ≡ with_found choice_range choice }
+{
+    match choice {
+        Found::Refused(refusal) => Found::Refused(refusal),
+        Found::Unknown => Found::Unknown,
+        Found::Is(choice) => Found::Is(choice_range(choice)),
+    }
 }
 
 /// A qualified expression by what is seen at `at`. `Err` where memory was refused.

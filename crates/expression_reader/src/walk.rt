@@ -21,17 +21,23 @@ ghost use Rattle.typing_rules.specs.Reading as reading;
 ghost use Rattle.typing_rules.specs.Values as values;
 ghost use Rattle.condition_rules.specs.Ifs as ifs;
 ghost use Rattle.operand_rules.specs.Operands.{read_as, read_maybe};
+ghost use Rattle.expression_reader.specs.Sorts.{sort_read};
 
 use crate::Starved;
 use crate::parts::also_given;
+use crate::parts::bounds_chosen;
 use crate::parts::high_place;
 use crate::parts::in_front;
 use crate::parts::is_indexed;
 use crate::parts::left_want;
+use crate::parts::member_read;
 use crate::parts::not_qualified;
 use crate::parts::qualified_value;
 use crate::parts::right_want;
 use crate::parts::with_one_index;
+use crate::sorts::ItemStep;
+use crate::sorts::ReadSort;
+use crate::sorts::item_step;
 use ada_syntax::Arg;
 use ada_syntax::ArgChoice;
 use ada_syntax::Arm;
@@ -77,6 +83,7 @@ use name_values::entity_of;
 use name_values::entity_prefix;
 use name_values::formals_of;
 use name_values::spoiled;
+use name_values::type_of;
 use name_values::value_of;
 use operand_rules::ReadOperand;
 use operand_rules::actual_want;
@@ -94,10 +101,12 @@ use prefix_rules::array_item;
 use prefix_rules::formal_for;
 use prefix_rules::item_of;
 use prefix_rules::selection;
+use range_rules::choice_by;
 use range_rules::lone_reach;
-use range_rules::member_by;
+use range_rules::range_choice;
 use range_rules::reach_in;
 use range_rules::two_reach;
+use range_rules::value_at;
 use range_rules::want_or;
 use range_rules::weaker;
 use reading_scope::Scope;
@@ -121,7 +130,9 @@ use typed_units::Indexed;
 use typing_rules::ArrayItems;
 use typing_rules::Between;
 use typing_rules::Found;
+use typing_rules::Gathered;
 use typing_rules::Gives;
+use typing_rules::Manner;
 use typing_rules::Part;
 use typing_rules::Prefix;
 use typing_rules::Reach;
@@ -129,7 +140,7 @@ use typing_rules::Reach;
 // ---- operands
 
 /// What an expression is in a context. `Err` where memory was refused.
-#[tactic(auto, using(syntax_view::proofs::Forms::expr_has, crate::proofs::Walked::left_by_kind, crate::proofs::Walked::right_by_kind, range_rules::proofs::Placed::member_by_placed))]
+#[tactic(auto, using(syntax_view::proofs::Forms::expr_has, crate::proofs::Walked::left_by_kind, crate::proofs::Walked::right_by_kind))]
 #[cycle(walk)]
 pub fn prefix(alloc: Global, scope: &Scope, want: Want, e: &Tree) -> Result<Prefix, Starved>
     ensures { IfOk result (λ f. f ≡ (reading.read (scope_of scope.now) (expr e.now)).prefix want) }
@@ -180,9 +191,8 @@ pub fn prefix(alloc: Global, scope: &Scope, want: Want, e: &Tree) -> Result<Pref
                     return Err(error);
                 }
             };
-            let low = expression_place(scope, &range.get().low);
-            let high = high_place(scope, range.get());
-            let seen = member_by(alloc, scope, place, !*negated, at, low, high, tested, reach)?;
+            let is = !*negated;
+            let seen = member_read(alloc, scope, place, is, at, range.get(), tested, reach)?;
             Ok(Prefix::Value(seen))
         }
     }
@@ -436,17 +446,17 @@ fn part_item(
                 item,
             },
         ) => {
-            let found = match index_of(alloc, scope, place, index, bounds, args) {
+            let array = ArrayForm {
+                index,
+                bounds,
+                item,
+            };
+            let found = match index_of(alloc, scope, place, array, args) {
                 Ok(found) => found,
                 Err(error) => {
                     drop(part);
                     return Err(error);
                 }
-            };
-            let array = ArrayForm {
-                index,
-                bounds,
-                item,
             };
             item_of(part, array, found)
         }
@@ -480,7 +490,12 @@ fn value_item(
                     item,
                 },
             ) => {
-                let found = match index_of(alloc, scope, place, index, bounds, args) {
+                let array = ArrayForm {
+                    index,
+                    bounds,
+                    item,
+                };
+                let found = match index_of(alloc, scope, place, array, args) {
                     Ok(found) => found,
                     Err(error) => {
                         drop(x);
@@ -503,43 +518,35 @@ fn value_item(
 fn one_index(
     alloc: Global,
     scope: &Scope,
-    index: u32,
-    bounds: Option<Bounds>,
+    array: ArrayForm,
     arg: &Arg<Tree>,
 ) -> Result<Found<Indexed<Expr>>, Starved>
-    ensures { (item : ℕ) → IfOk result (λ i. i ≡ names.index_by (scope_of scope.now) (record { index = index; bounds = bounds; item = item }) ((scope_of scope.now).place arg.now.span.from) (names.only_operand (reading.arg (scope_of scope.now) (arg_of expr arg.now) ∷ []))) }
+    ensures { IfOk result (λ i. i ≡ names.index_by (scope_of scope.now) (record { index = array.index; bounds = array.bounds; item = array.item }) ((scope_of scope.now).place arg.now.span.from) (names.only_operand (reading.arg (scope_of scope.now) (arg_of expr arg.now) ∷ []))) }
 {
-    let operand = read_lone(alloc, scope, Want::Subtype(index), arg)?;
-    index_read(
-        alloc,
-        scope,
-        index,
-        bounds,
-        scope.place(arg.span.from),
-        operand,
-    )
+    let operand = read_lone(alloc, scope, Want::Subtype(array.index), arg)?;
+    let place = scope.place(arg.span.from);
+    index_read(alloc, scope, array.index, array.bounds, place, operand)
 }
 
-/// The index of an array with such an index subtype and bounds: one argument.
+/// The index of an array: one argument.
 #[cycle(walk)]
 fn index_of(
     alloc: Global,
     scope: &Scope,
     place: Place,
-    index: u32,
-    bounds: Option<Bounds>,
+    array: ArrayForm,
     args: &Items<Arg<Tree>>,
 ) -> Result<Found<Indexed<Expr>>, Starved>
-    ensures { (item : ℕ) → IfOk result (λ i. i ≡ names.index_of (scope_of scope.now) place (record { index = index; bounds = bounds; item = item }) (reading.args (scope_of scope.now) (args_of expr args.now))) }
+    ensures { IfOk result (λ i. i ≡ names.index_of (scope_of scope.now) place (record { index = array.index; bounds = array.bounds; item = array.item }) (reading.args (scope_of scope.now) (args_of expr args.now))) }
 {
     match args.as_slice() {
         [] => Ok(Found::Refused(Refusal {
             code: Code::L14,
             place,
         })),
-        [arg] => one_index(alloc, scope, index, bounds, arg),
+        [arg] => one_index(alloc, scope, array, arg),
         [arg, other, ..] => {
-            let found = one_index(alloc, scope, index, bounds, arg)?;
+            let found = one_index(alloc, scope, array, arg)?;
             let refusal = Refusal {
                 code: Code::L14,
                 place: scope.place(other.span.from),
@@ -797,6 +804,7 @@ fn record_by(
 }
 
 /// The associations of a record's aggregate.
+#[tactic(auto, using(crate::proofs::Turns::ends_by, crate::proofs::Turns::part_stops, crate::proofs::Turns::part_goes))]
 #[cycle(walk)]
 fn record_parts(
     alloc: Global,
@@ -814,8 +822,7 @@ fn record_parts(
     let mut at = 0;
     while at < all.len() {
         let arg = &all[at];
-        at += 1;
-        let last = at == all.len();
+        let last = at + 1 == all.len();
         let gives = match components_for(
             alloc,
             scope,
@@ -841,6 +848,7 @@ fn record_parts(
         done = with_association(alloc, scope, components, &gives, arg, done)?;
         given = also_given(gives, given)?;
         named = named || arg.value.is_some();
+        at += 1;
     }
     Ok(record_ended(place, components, given.as_slice(), done))
 }
@@ -874,6 +882,75 @@ fn with_association(
     }
 }
 
+/// The numbers that one expression as a choice has.
+#[cycle(walk)]
+fn lone_range(
+    alloc: Global,
+    scope: &Scope,
+    ty: u32,
+    choice: &Item<Tree>,
+) -> Result<Found<Bounds>, Starved>
+    ensures { IfOk result (λ b. b ≡ fits.with_found ranges.choice_range (ranges.single_choice (scope_of scope.now) code.L16 ty (reading.item (scope_of scope.now) (item_of expr choice.now)))) }
+{
+    let ReadOperand { place, prefix } = read_item(alloc, scope, Want::Type(ty), choice)?;
+    let choice = choice_by(alloc, scope, Code::L16, ty, place, prefix)?;
+    Ok(bounds_chosen(choice))
+}
+
+/// A bound of a choice: a static value.
+#[cycle(walk)]
+fn bound_of(alloc: Global, scope: &Scope, ty: u32, e: &Tree) -> Result<Found<i128>, Starved>
+    ensures { IfOk result (λ n. n ≡ ranges.value_at (scope_of scope.now) code.L16 ty (values.place_of (scope_of scope.now) (reading.read (scope_of scope.now) (expr e.now))) (values.seen_of (scope_of scope.now) (reading.read (scope_of scope.now) (expr e.now)) (want'.Type ty))) }
+{
+    let place = expression_place(scope, e);
+    let seen = seen(alloc, scope, Want::Type(ty), e)?;
+    value_at(alloc, scope, Code::L16, ty, place, seen)
+}
+
+/// What an association of an array is, whose index is of this type and whose items are of this subtype.
+#[cycle(walk)]
+fn read_sort(
+    alloc: Global,
+    scope: &Scope,
+    ty: u32,
+    item: u32,
+    arg: &Arg<Tree>,
+) -> Result<ReadSort, Starved>
+    ensures { IfOk result (λ s. s ≡ sort_read (scope_of scope.now) item (aggregates.sort_of (scope_of scope.now) ty (reading.arg (scope_of scope.now) (arg_of expr arg.now)))) }
+{
+    match &arg.value {
+        None => match &arg.choice {
+            ArgChoice::Item(value) => {
+                let operand = read_item(alloc, scope, Want::Subtype(item), value)?;
+                Ok(ReadSort::Positional(operand))
+            }
+            ArgChoice::Others => Ok(ReadSort::Misfit),
+            ArgChoice::Range(_, _) => Ok(ReadSort::Misfit),
+        },
+        Some(value) => match &arg.choice {
+            ArgChoice::Item(choice) => {
+                let range = lone_range(alloc, scope, ty, choice)?;
+                let operand = read_item(alloc, scope, Want::Subtype(item), value)?;
+                Ok(ReadSort::Chosen(range, operand))
+            }
+            ArgChoice::Others => {
+                let operand = read_item(alloc, scope, Want::Subtype(item), value)?;
+                Ok(ReadSort::Rest(operand))
+            }
+            ArgChoice::Range(low, high) => {
+                let first = bound_of(alloc, scope, ty, low)?;
+                let last = bound_of(alloc, scope, ty, high)?;
+                let range = bounds_chosen(range_choice(first, last));
+                let operand = read_item(alloc, scope, Want::Subtype(item), value)?;
+                Ok(ReadSort::Chosen(range, operand))
+            }
+        },
+    }
+}
+
+/// The associations of an array with these bounds.
+#[tactic(auto, using(crate::proofs::Turns::ends_by, crate::proofs::Turns::item_stops, crate::proofs::Turns::item_goes))]
+#[cycle(walk)]
 fn array_items(
     alloc: Global,
     scope: &Scope,
@@ -884,10 +961,44 @@ fn array_items(
 ) -> Result<ArrayItems, Starved>
     ensures { IfOk result (λ i. i ≡ aggregates.items (scope_of scope.now) (record { index = index; bounds = Some bounds; item = item }) bounds 0 manner.Either aggregates.none_gathered (reading.args (scope_of scope.now) (args_of expr args.now))) }
 {
-    Err(Starved)
+    let all = args.as_slice();
+    let ty = type_of(scope.world(), index);
+    let mut manner = Manner::Either;
+    let mut gathered = Gathered {
+        ranges: Found::Is(Items::new(alloc)),
+        done: Found::Is(Items::new(alloc)),
+    };
+    let mut at = 0;
+    while at < all.len() {
+        let arg = &all[at];
+        let sort = match read_sort(alloc, scope, ty, item, arg) {
+            Ok(sort) => sort,
+            Err(error) => {
+                drop(gathered);
+                return Err(error);
+            }
+        };
+        let last = at + 1 == all.len();
+        match item_step(
+            alloc, scope, item, bounds, at, last, manner, gathered, arg, sort,
+        ) {
+            Ok(ItemStep::Ended(items)) => return Ok(items),
+            Ok(ItemStep::Further(next, more)) => {
+                manner = next;
+                gathered = more;
+            }
+            Err(error) => return Err(error),
+        }
+        at += 1;
+    }
+    Ok(ArrayItems {
+        gathered,
+        partial: false,
+    })
 }
 
 /// An aggregate of a constrained array subtype.
+#[cycle(walk)]
 fn array_aggregate(
     alloc: Global,
     scope: &Scope,
@@ -1094,6 +1205,7 @@ fn read_arms(
 }
 
 /// The predicate of a quantified expression over this range, whose index stands at a byte.
+#[tactic(auto, using(crate::proofs::Walked::predicate))]
 #[cycle(walk)]
 fn predicate_found(
     alloc: Global,
@@ -1105,7 +1217,7 @@ fn predicate_found(
     ensures { IfOk result (λ x. x ≡ conditions.condition (scope_of scope.now) code.L23 (reading.read (with_index (scope_of scope.now) at (conditions.index_subtype (scope_of scope.now).world range.now)) (expr predicate.now))) }
 {
     let subtype = index_subtype(scope.world(), range)?;
-    let indexes = with_one_index(alloc, scope, at, subtype)?;
+    let parameters = with_one_index(alloc, scope, at, subtype)?;
     let inner = Scope {
         world: scope.world,
         file: scope.file,
@@ -1115,9 +1227,10 @@ fn predicate_found(
         numbers: scope.numbers,
         own: scope.own,
         moment: scope.moment,
-        indexes: indexes.as_slice(),
+        parameters: parameters.as_slice(),
     };
-    let found = read_condition(alloc, &inner, Code::L23, predicate);
+    let place = expression_place(&inner, predicate);
+    let prefix = prefix(alloc, &inner, Want::Type(BOOLEAN), predicate);
     let Scope {
         world: _,
         file: _,
@@ -1127,9 +1240,10 @@ fn predicate_found(
         numbers: _,
         own: _,
         moment: _,
-        indexes: _,
+        parameters: _,
     } = inner;
-    found
+    let seen = value_of(alloc, scope, place, prefix?)?;
+    Ok(condition(scope, Code::L23, place, seen))
 }
 
 // ---- entry points

@@ -1,10 +1,11 @@
-use Rattle.std.proofs.Common.{◌≡◌, ◌+◌, ◌-◌, ◌*◌, ◌≤◌, ◌++◌, false, [], drop, length}
+use Rattle.std.proofs.Common.{◌≡◌, ◌+◌, ◌-◌, ◌*◌, ◌≤◌, ◌++◌, false, [], Some, drop, length}
 use Rattle.ada_syntax.proofs.expressions.Expr.TheLaws
 use Rattle.ada_syntax.specs.declared.expressions.Expr.TheShapes
 use Rattle.condition_rules.specs.Ifs.{read_arms}
 use Rattle.reading_scope.specs.Scopes.{scope_of}
 use Rattle.syntax_view.specs.View.{args_of, arms_of, expr, suffixes_of}
 use Rattle.typing_rules.specs.declared.prefix.Found.TheVariants.{Is}
+use Rattle.typing_rules.specs.declared.aggregates.Manner.TheVariants as manner
 use Rattle.typing_rules.specs.Aggregates as aggregates
 use Rattle.typing_rules.specs.Calls as calls
 use Rattle.typing_rules.specs.Forms as forms
@@ -87,6 +88,21 @@ decreases-with_association l = 64 * goal.size-with_association l + 12
 abbrev pub decreases-record_parts : goal.decreases-record_parts
 decreases-record_parts l = 64 * goal.size-record_parts l + 13
 
+abbrev pub decreases-bound_of : goal.decreases-bound_of
+decreases-bound_of l = 64 * goal.size-bound_of l + 2
+
+abbrev pub decreases-lone_range : goal.decreases-lone_range
+decreases-lone_range l = 64 * goal.size-lone_range l + 10
+
+abbrev pub decreases-read_sort : goal.decreases-read_sort
+decreases-read_sort l = 64 * goal.size-read_sort l + 12
+
+abbrev pub decreases-array_items : goal.decreases-array_items
+decreases-array_items l = 64 * goal.size-array_items l + 13
+
+abbrev pub decreases-array_aggregate : goal.decreases-array_aggregate
+decreases-array_aggregate l = 64 * goal.size-array_aggregate l + 14
+
 abbrev pub decreases-value_item : goal.decreases-value_item
 decreases-value_item l = 64 * goal.size-value_item l + 14
 
@@ -146,3 +162,9 @@ invariant-record_parts-loop-at l = (l.at ≤ length l.all) × (aggregates.record
 
 abbrev pub decreases-record_parts-loop-at : goal.decreases-record_parts-loop-at
 decreases-record_parts-loop-at l = length l.all - l.at
+
+abbrev pub invariant-array_items-loop-at : goal.invariant-array_items-loop-at
+invariant-array_items-loop-at l = (l.at ≤ length l.all) × (aggregates.items (scope_of l.scope) (record { index = l.index; bounds = Some l.bounds; item = l.item }) l.bounds l.at l.manner l.gathered (reading.args (scope_of l.scope) (args_of expr (drop l.at l.all))) ≡ aggregates.items (scope_of l.scope) (record { index = l.index; bounds = Some l.bounds; item = l.item }) l.bounds 0 manner.Either aggregates.none_gathered (reading.args (scope_of l.scope) (args_of expr l.all)))
+
+abbrev pub decreases-array_items-loop-at : goal.decreases-array_items-loop-at
+decreases-array_items-loop-at l = length l.all - l.at
