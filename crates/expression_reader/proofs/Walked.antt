@@ -20,7 +20,10 @@ use Rattle.type_base.specs.declared.seen.Seen.TheVariants as seen
 use Rattle.type_base.specs.declared.seen.Want.{Want}
 use Rattle.type_base.specs.declared.seen.Want.TheVariants as want
 use Rattle.type_base.specs.declared.world.Formal.{Formal}
+use Rattle.typed_units.specs.declared.expressions.Expr.{Expr as Typed}
+use Rattle.typing_rules.specs.declared.prefix.Found.{Found}
 use Rattle.typing_rules.specs.declared.prefix.Found.TheVariants.{Is}
+use Rattle.typing_rules.specs.declared.prefix.Prefix.{Prefix}
 use Rattle.typing_rules.specs.declared.prefix.Prefix.TheVariants as prefix
 use Rattle.typing_rules.specs.Aggregates.{grouped, aggregate, qualified_by, qualified_as}
 use Rattle.typing_rules.specs.Calls.{arguments, operand_of}
@@ -105,3 +108,12 @@ inner c at k j ps h e = ap (λ (qs : List Parameter). record c { parameters = qs
 -- a predicate, which is read in its scope
 pub predicate : (c : Scope) (at k j : ℕ) (ps : List Parameter) (e : tree.Expr) → ps ≡ (with_index c at k).parameters → k ≡ j → found_expr (operand c.world demand.Truth code.L23 (place_of (record c { parameters = ps }) (read (record c { parameters = ps }) e)) (value_of c (place_of (record c { parameters = ps }) (read (record c { parameters = ps }) e)) ((read (record c { parameters = ps }) e).prefix (want.Type boolean)))) ≡ condition c code.L23 (read (with_index c at j) e)
 predicate c at k j ps e h i = ap (λ (d : Scope). found_expr (operand c.world demand.Truth code.L23 (place_of d (read d e)) (value_of c (place_of d (read d e)) ((read d e).prefix (want.Type boolean))))) (inner c at k j ps h i)
+
+pub predicate_of : (c : Scope) (at k j : ℕ) (ps qs : List Parameter) (e : tree.Expr) (q : Place) (f : Prefix) (s : Seen) (r : Found Typed) → qs ≡ ps → ps ≡ (with_index c at k).parameters → k ≡ j
+    → q ≡ place_of (record c { parameters = qs }) (read (record c { parameters = qs }) e) → f ≡ (read (record c { parameters = qs }) e).prefix (want.Type boolean) → s ≡ value_of c q f
+    → r ≡ found_expr (operand c.world demand.Truth code.L23 q s) → r ≡ condition c code.L23 (read (with_index c at j) e)
+predicate_of c at k j ps qs e q f s r same h i there read_for value made =
+    made ∙ ap (λ (x : Seen). found_expr (operand c.world demand.Truth code.L23 q x)) value
+    ∙ ap (λ (g : Prefix). found_expr (operand c.world demand.Truth code.L23 q (value_of c q g))) read_for
+    ∙ ap (λ (p : Place). found_expr (operand c.world demand.Truth code.L23 p (value_of c p ((read (record c { parameters = qs }) e).prefix (want.Type boolean))))) there
+    ∙ predicate c at k j qs e (same ∙ h) i

@@ -804,7 +804,6 @@ fn record_by(
 }
 
 /// The associations of a record's aggregate.
-#[tactic(auto, using(crate::proofs::Turns::ends_by, crate::proofs::Turns::part_stops, crate::proofs::Turns::part_goes))]
 #[cycle(walk)]
 fn record_parts(
     alloc: Global,
@@ -813,6 +812,7 @@ fn record_parts(
     components: &[Component],
     args: &Items<Arg<Tree>>,
 ) -> Result<Found<Items<Association<Expr>>>, Starved>
+    requires { length components.now ≤ 4294967295 }
     ensures { IfOk result (λ xs. xs ≡ aggregates.record_parts (scope_of scope.now) place components.now [] false (found'.Is []) (reading.args (scope_of scope.now) (args_of expr args.now))) }
 {
     let all = args.as_slice();
@@ -949,7 +949,6 @@ fn read_sort(
 }
 
 /// The associations of an array with these bounds.
-#[tactic(auto, using(crate::proofs::Turns::ends_by, crate::proofs::Turns::item_stops, crate::proofs::Turns::item_goes))]
 #[cycle(walk)]
 fn array_items(
     alloc: Global,
@@ -1205,7 +1204,6 @@ fn read_arms(
 }
 
 /// The predicate of a quantified expression over this range, whose index stands at a byte.
-#[tactic(auto, using(crate::proofs::Walked::predicate))]
 #[cycle(walk)]
 fn predicate_found(
     alloc: Global,
