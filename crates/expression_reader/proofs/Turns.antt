@@ -44,12 +44,18 @@ drop_all : {A : Type 0} (xs : List A) → drop (length xs) xs ≡ []
 drop_all [] = refl
 drop_all (x ∷ xs) = drop_all xs
 
+zero_not : (n : ℕ) → false ≡ (zero == suc n)
+zero_not n = grind arith
+
+one_less : (n m : ℕ) → (n == m) ≡ (suc n == suc m)
+one_less n m = grind arith
+
 -- none follow where as many stand before
 pub ends_by : (c : Scope) (xs : List (Written Expr)) (n : ℕ) → n ≤ length xs → is_end (args c (args_of expr (drop n xs))) ≡ (n == length xs)
 ends_by c [] zero h = refl
 ends_by c [] (suc n) h = absurd (omega arith)
-ends_by c (x ∷ xs) zero h = refl
-ends_by c (x ∷ xs) (suc n) h = ends_by c xs n (omega arith)
+ends_by c (x ∷ xs) zero h = zero_not (length xs)
+ends_by c (x ∷ xs) (suc n) h = ends_by c xs n (omega arith) ∙ one_less n (length xs)
 
 pub ended_by : (c : Scope) (xs : List (Written Expr)) (n : ℕ) → n ≤ length xs → length xs ≤ n → from c xs n ≡ []
 ended_by c xs n h k = let e : n ≡ length xs = omega arith in subst (λ (m : ℕ). from c xs m ≡ []) (sym e) (ap (λ (ys : List (Written Expr)). args c (args_of expr ys)) (drop_all xs))
