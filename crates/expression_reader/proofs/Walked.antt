@@ -1,6 +1,5 @@
 -- What the walk does with the parts is what the rules say.
 use Rattle.std.proofs.Common.{◌≡◌, refl, sym, ap, ◌∙◌, ℕ, ◌+◌, ◌<◌, ◌≤◌, true, false, List, [], ◌∷◌, length, drop, get_or, Option, Some, None}
-use Rattle.std.specs.Prelude.{if◌then◌else◌}
 use Rattle.std.proofs.lemmas.List.{drop_more}
 use Rattle.ada_syntax.specs.declared.expressions.Arg.{Arg as Written}
 use Rattle.ada_syntax.specs.declared.expressions.Expr.{Expr}

@@ -1,6 +1,4 @@
 use Rattle.std.proofs.Common.{◌≡◌, ◌+◌, ◌-◌, ◌*◌, ◌≤◌, ◌++◌, false, [], Some, drop, length}
-use Rattle.ada_syntax.proofs.expressions.Expr.TheLaws
-use Rattle.ada_syntax.specs.declared.expressions.Expr.TheShapes
 use Rattle.condition_rules.specs.Ifs.{read_arms}
 use Rattle.reading_scope.specs.Scopes.{scope_of}
 use Rattle.syntax_view.specs.View.{args_of, arms_of, expr, suffixes_of}
