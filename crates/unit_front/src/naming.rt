@@ -1,7 +1,13 @@
 //! The names of all files.
 
-ghost use Rattle.std.specs.Prelude.{◌≡◌, ◌<◌, ◌^◌, IfErr, IfOk, length};
+ghost use Rattle.std.specs.Prelude.{◌≡◌, ◌<◌, ◌^◌, IfErr, IfOk, length, map};
 ghost use Rattle.std.specs.List.{sum_by};
+ghost use Rattle.name_library.specs.Chains.{IsFileOrder};
+ghost use Rattle.name_library.specs.Library.{library};
+ghost use Rattle.name_numbers.specs.Numbers.{numbered};
+ghost use Rattle.name_resolver.specs.Resolved as sources;
+ghost use Rattle.name_resolver.specs.Resolved.{events_of, order_by};
+ghost use Rattle.text_lines.specs.Lines.{line_starts};
 ghost use Rattle.unit_front.specs.Naming.{AreNamed, AreRefused};
 ghost use Rattle.unit_front.specs.Reading.{texts_of};
 
@@ -33,6 +39,10 @@ pub fn name_files(alloc: Global, files: &[NamedBytes]) -> Result<NamedFiles, Fro
     requires few { length files.now < 2 ^ 32 }
     requires short { sum_by (λ f. length f.bytes) files.now < 2 ^ 31 }
     ensures named { IfOk result (λ p. AreNamed (texts_of files.now) p.files p.named.links) }
+    ensures tables { IfOk result (λ p. p.named.tables ≡ numbered (sources.texts_of p.files)) }
+    ensures lines { IfOk result (λ p. p.named.lines ≡ map line_starts (sources.texts_of p.files)) }
+    ensures order { IfOk result (λ p. p.named.order ≡ order_by (events_of p.files)) }
+    ensures whole { IfOk result (λ p. IsFileOrder (library (events_of p.files)) (length p.files) p.named.order) }
     ensures refused { IfErr result (λ r. AreRefused (texts_of files.now) r) }
 {
     let sources = read_files(alloc, files)?;
