@@ -8,4 +8,4 @@ mod walk;
 
 pub use entries::{call_seen, range_seen, target_seen};
 pub use type_base::Starved;
-pub use walk::{item_prefix, item_seen, name_seen, prefix, seen};
+pub use walk::{item_prefix, item_seen, name_seen, prefix, reach_of, seen};

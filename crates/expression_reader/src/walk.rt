@@ -1071,9 +1071,9 @@ fn qualification(
 
 // ---- ranges
 
-/// What a range reaches over in a context, by a rule.
+/// What a range reaches over in a context, by a rule. `Err` where memory was refused.
 #[cycle(walk)]
-fn reach_of(
+pub fn reach_of(
     alloc: Global,
     scope: &Scope,
     code: Code,

@@ -41,3 +41,21 @@ pub fn declare_all(
     }
     Ok(())
 }
+
+/// The identifiers are the literals of the enumeration of this number, in the order of their positions. `Err` where memory was
+/// refused.
+pub fn declare_literals(
+    alloc: Global,
+    file: u32,
+    subtype: u32,
+    names: &[Span],
+    draft: &mut Draft,
+) -> Result<(), AllocError>
+    ensures { OnOk result (draft.new ≡ drafts.declare_literals file subtype 0 names.now draft.old) }
+{
+    for (position, name) in names.iter().enumerate() {
+        let literal = Entity::Literal(subtype, position as i128);
+        declare(alloc, file, *name, literal, draft)?;
+    }
+    Ok(())
+}

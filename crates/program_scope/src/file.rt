@@ -15,6 +15,7 @@ use name_numbers::{NameTable, Word, word_of};
 use text_lines::Lines;
 
 /// A file of a program, as the stage of names leaves it. Contracts speak of it by `file_of`.
+#[derive(Clone, Copy)]
 pub struct File<'a> {
     pub unit: &'a SourceUnit,
     /// Its number, from 0.

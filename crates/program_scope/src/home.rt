@@ -13,6 +13,7 @@ use reading_scope::{Numbers, Scope};
 use type_base::{Moment, World};
 
 /// Where declarations stand. Contracts speak of it by `home_of`.
+#[derive(Clone, Copy)]
 pub struct Home<'a> {
     pub file: &'a File<'a>,
     /// The subprogram whose body has them.

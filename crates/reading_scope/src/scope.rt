@@ -13,6 +13,7 @@ use text_lines::Lines;
 use type_base::{Moment, Parameter, World};
 
 /// What the reading of a part of a file's text goes by. Contracts speak of it by `scope_of`.
+#[derive(Clone, Copy)]
 pub struct Scope<'a> {
     pub world: &'a World,
     /// The number of the file.

@@ -32,7 +32,8 @@ use Rattle.statement_typing.specs.Checks.{added, all_of, and_also, broken, fault
 use Rattle.statement_typing.specs.Subtypes.{heard, part, part_faults}
 use Rattle.statement_typing.specs.Aspects.{condition}
 use Rattle.statement_typing.specs.Pragmas.{checked, checked_faults, ways, ways_faults}
-use Rattle.statement_typing.specs.Choices.{choices_faults, choices_faults_in, cover, cover_faults, has_others, others_last, Selected, selector, selector_want, spreads_in}
+use Rattle.statement_typing.specs.declared.parts.Selected.{Selected}
+use Rattle.statement_typing.specs.Choices.{choices_faults, choices_faults_in, cover, cover_faults, has_others, others_last, selector, selector_want, spreads_in}
 use Rattle.statement_typing.specs.Statements.{a_value, action_at, action_faults, add_after, add_before, add_demand, alternative_of, alternatives_faults, alternatives_onto, another, Around, assignment, assignment_faults, before_group, in_group, after_group, body_faults, body_onto, Body, branches_faults, branches_onto, call_action, case_at, demand_faults, demand_of, empty, entry, exit_faults, exit_of, head_faults, in_loop, in_pragma, inside, invariant, invocation, invocation_faults, is_demand, may_stand, nothing, pragma_by, pragma_faults, return_faults, return_of, returned, returned_faults, Returns, Sort, sort_of, Stage, stage_after, stmt, stmt_faults, stmt_place, stmts, stmts_faults, stmts_onto, tested, tested_faults, value_for, value_for_faults, variant, with_demand, with_stmt}
 use Rattle.typing_laws.proofs.Merging.{first_alone, first_joined}
 use Rattle.typing_laws.proofs.Trees.{call_first, target_first}

@@ -16,7 +16,9 @@ use Rattle.typing_rules.specs.declared.prefix.Found.TheVariants.{Refused, Unknow
 use Rattle.statement_typing.specs.Asked.{low_place, name_prefix, place_of, range_faults, range_seen}
 use Rattle.statement_typing.specs.Checks.{added, all_of, all_onto, fault_after, fault_in}
 use Rattle.statement_typing.specs.Subtypes.{part, part_faults}
-use Rattle.statement_typing.specs.Choices.{any_others, choice_faults, choice_seen, choices_faults, choices_faults_in, cover, cover_by, cover_by_faults, cover_faults, covered, distinct, distinct_faults, fresh, is_range, range_choice, range_choice_faults, Selected, selector, selector_want, single, Spread, spreads, spreads_in, static_between, stretch, twice_fault, value_choice, value_for, values_after}
+use Rattle.statement_typing.specs.declared.parts.Selected.{Selected}
+use Rattle.statement_typing.specs.declared.parts.Spread.{Spread}
+use Rattle.statement_typing.specs.Choices.{any_others, choice_faults, choice_seen, choices_faults, choices_faults_in, cover, cover_by, cover_by_faults, cover_faults, covered, distinct, distinct_faults, fresh, is_range, range_choice, range_choice_faults, selector, selector_want, single, spreads, spreads_in, static_between, stretch, twice_fault, value_choice, value_for, values_after}
 use Rattle.typing_laws.proofs.Merging.{first_after, first_alone, first_in, first_joined}
 use Rattle.statement_laws.proofs.Telling.{Hears, Told, told_in, told_part, told_range, told_then, told_with}
 use Rattle.statement_laws.proofs.Definitions.{told_added}

@@ -20,10 +20,17 @@ use Rattle.typing_rules.specs.declared.prefix.Found.{Found}
 use Rattle.typing_rules.specs.declared.prefix.Found.TheVariants.{Refused, Unknown, Is}
 use Rattle.statement_typing.specs.Asked.{place_of}
 use Rattle.statement_typing.specs.Checks.{added, all_of, all_onto, and_also, broken, fault_after, refuse}
-use Rattle.statement_typing.specs.Subtypes.{bounds, heard, in_order, index_range, index_range_faults, indicated, indicated_faults, mark_of, Noted, noted_subtype, part, part_faults, part_subtype, part_subtype_faults, static_range, static_range_faults, Static, whole_of, name_place}
-use Rattle.statement_typing.specs.Types.{array_of, definition, definition_faults, derived_of, discrete_mark, discrete_subtype, discrete_subtype_faults, group, Group, groups_faults, indexes, indexes_by, indexes_by_faults, indexes_faults, Indexes, integer, modular_scalar, modulus, of_range, record_of, signed, signed_bound, signed_faults, signed_scalar, within_mark, within_mark_faults}
+use Rattle.statement_typing.specs.declared.parts.Definition.{Definition}
+use Rattle.statement_typing.specs.declared.parts.Definition.TheVariants.{ArrayOf, Integer, RecordOf}
+use Rattle.statement_typing.specs.declared.parts.Formals.{Formals}
+use Rattle.statement_typing.specs.declared.parts.Group.{Group}
+use Rattle.statement_typing.specs.declared.parts.Indexes.{Indexes}
+use Rattle.statement_typing.specs.declared.parts.Noted.{Noted}
+use Rattle.statement_typing.specs.declared.parts.StaticRange.{StaticRange}
+use Rattle.statement_typing.specs.Subtypes.{bounds, heard, in_order, index_range, index_range_faults, indicated, indicated_faults, mark_of, noted_subtype, part, part_faults, part_subtype, part_subtype_faults, static_range, static_range_faults, whole_of, name_place}
+use Rattle.statement_typing.specs.Types.{definition, definition_faults, derived_of, discrete_mark, discrete_subtype, discrete_subtype_faults, group, groups_faults, indexes, indexes_by, indexes_by_faults, indexes_faults, modular_scalar, modulus, of_range, signed, signed_bound, signed_faults, signed_scalar, within_mark, within_mark_faults}
 use Rattle.statement_typing.specs.Objects.{given, given_faults, initial, initial_faults, named_number, object_subtype, object_subtype_faults}
-use Rattle.statement_typing.specs.Routines.{formals, formals_faults, formals_of, Formals, marked_subtype, mode_of, named_subtype, params_faults, profile, profile_faults, result_faults, result_mark, result_subtype}
+use Rattle.statement_typing.specs.Routines.{formals, formals_faults, formals_of, marked_subtype, mode_of, named_subtype, params_faults, profile, profile_faults, result_faults, result_mark, result_subtype}
 use Rattle.typing_laws.proofs.Merging.{first_after, first_alone, first_as, first_joined}
 use Rattle.statement_laws.proofs.Telling.{Hears, Told, told_both, told_broken, told_heard, told_in, told_part, told_swapped, told_then, told_with}
 use Rattle.statement_laws.proofs.Indications.{both_heard, index_range_told, indicated_told, part_subtype_told, static_range_told, told_two}
@@ -63,7 +70,7 @@ discrete_told c (tree.at s (tree.member t b a g)) = no_name c (tree.at s (tree.m
 
 pub of_range_told : (c : Scope) (r : tree.Range) → Told (of_range (static_range c want.Free r)) (static_range_faults c want.Free r)
 of_range_told c r =
-    told_with (λ (s : Static). record { subtype = s.subtype; bounds = Some s.bounds }) (static_range c want.Free r) (static_range_faults c want.Free r) (static_range_told c want.Free r)
+    told_with (λ (s : StaticRange). record { subtype = s.subtype; bounds = Some s.bounds }) (static_range c want.Free r) (static_range_faults c want.Free r) (static_range_told c want.Free r)
 
 abbrev no_indexes : Found Indexes
 no_indexes = Unknown
@@ -121,15 +128,15 @@ derived_is w Unknown = refl
 derived_is w (Is m) = derived_fault (noted_subtype w m)
 
 pub definition_told : (c : Scope) (t : tree.TypeForm) → Told (definition c t) (definition_faults c t)
-definition_told c (tree.signed b) = told_with (λ r. integer discrete.Signed (signed_scalar r)) (signed c b) (signed_faults c b) (signed_told c b)
+definition_told c (tree.signed b) = told_with (λ r. Integer discrete.Signed (signed_scalar r)) (signed c b) (signed_faults c b) (signed_told c b)
 definition_told c (tree.modular e) =
-    told_with (λ n. integer discrete.Modular (modular_scalar n)) (part c want.Free e (modulus c.world (place_of c e))) (part_faults c want.Free e (modulus c.world (place_of c e)))
+    told_with (λ n. Integer discrete.Modular (modular_scalar n)) (part c want.Free e (modulus c.world (place_of c e))) (part_faults c want.Free e (modulus c.world (place_of c e)))
     (told_part c want.Free e (modulus c.world (place_of c e)) (modulus_hears c.world (place_of c e)))
 definition_told c (tree.enumeration ns) = refl
 definition_told c (tree.array_of i s) =
-    told_both array_of (indexes c i) (part_subtype c s) (indexes_faults c i) (part_subtype_faults c s) (indexes_told c i) (part_subtype_told c s)
+    told_both ArrayOf (indexes c i) (part_subtype c s) (indexes_faults c i) (part_subtype_faults c s) (indexes_told c i) (part_subtype_told c s)
 definition_told c (tree.record_of gs) =
-    told_with record_of (all_of (map (group c) gs)) (groups_faults c gs) (groups_told c gs (Is []) [] refl)
+    told_with RecordOf (all_of (map (group c) gs)) (groups_faults c gs) (groups_told c gs (Is []) [] refl)
 definition_told c (tree.derived s) =
     first_as (found_fault (definition c (tree.derived s))) (found_fault (indicated c L20 s)) (indicated_faults c L20 s) (derived_is c.world (indicated c L20 s)) (indicated_told c L20 s)
 

@@ -23,7 +23,8 @@ use Rattle.typing_rules.specs.declared.prefix.Found.TheVariants.{Is}
 use Rattle.statement_typing.specs.Asked.{item_faults, item_place}
 use Rattle.statement_typing.specs.Checks.{added, all_of, and_also, broken, fault_beyond, fault_in, refuse, unless}
 use Rattle.statement_typing.specs.Files.{Home, place_at, scope}
-use Rattle.statement_typing.specs.Aspects.{aspect_faults, aspect_found, aspect_number, aspects_faults, aspects_found, condition, contract_of, faults_in, global, global_items, item_condition, item_condition_faults, may_stand, post, pre, stated, stated_faults}
+use Rattle.statement_typing.specs.declared.parts.Stated.TheVariants.{Global, Post, Pre}
+use Rattle.statement_typing.specs.Aspects.{aspect_faults, aspect_found, aspect_number, aspects_faults, aspects_found, condition, contract_of, faults_in, global_items, item_condition, item_condition_faults, may_stand, stated, stated_faults}
 use Rattle.statement_typing.specs.Pragmas.{checked, checked_arg, checked_arg_faults, checked_by, checked_by_faults, checked_faults, choice_word, direction_of, moved_value, no_more, no_more_faults, way, way_by, way_by_faults, way_faults, ways, ways_faults, ways_from_faults, ways_onto}
 use Rattle.typing_laws.proofs.Merging.{first_alone, first_joined}
 use Rattle.typing_laws.proofs.Trees.{item_seen_first}
@@ -48,15 +49,15 @@ globals_told h c i = each_told (global_items h c i) (Is []) [] refl
 
 pub stated_told : (h : Home) (w : World) (p : Place) (a : Option Word) (i : Option tree.Item) → Told (stated h w p a i) (stated_faults h w p a i)
 stated_told h w p (Some word.Pre) (Some i) =
-    told_with (λ x. pre (contract_of p x)) (item_condition (scope h moment.Elsewhere w) L28 i) (item_condition_faults (scope h moment.Elsewhere w) L28 i)
+    told_with (λ x. Pre (contract_of p x)) (item_condition (scope h moment.Elsewhere w) L28 i) (item_condition_faults (scope h moment.Elsewhere w) L28 i)
     (item_condition_told (scope h moment.Elsewhere w) L28 i)
 stated_told h w p (Some word.Pre) None = told_broken L28 p
 stated_told h w p (Some word.Post) (Some i) =
-    told_with (λ x. post (contract_of p x)) (item_condition (scope h moment.InPost w) L28 i) (item_condition_faults (scope h moment.InPost w) L28 i)
+    told_with (λ x. Post (contract_of p x)) (item_condition (scope h moment.InPost w) L28 i) (item_condition_faults (scope h moment.InPost w) L28 i)
     (item_condition_told (scope h moment.InPost w) L28 i)
 stated_told h w p (Some word.Post) None = told_broken L28 p
 stated_told h w p (Some word.Global) (Some i) =
-    told_with (λ gs. global (record { place = p; items = gs })) (all_of (global_items h (scope h moment.Elsewhere w) i)) (faults_in (global_items h (scope h moment.Elsewhere w) i))
+    told_with (λ gs. Global (record { place = p; items = gs })) (all_of (global_items h (scope h moment.Elsewhere w) i)) (faults_in (global_items h (scope h moment.Elsewhere w) i))
     (globals_told h (scope h moment.Elsewhere w) i)
 stated_told h w p (Some word.Global) None = told_broken L30 p
 stated_told h w p None i = refl

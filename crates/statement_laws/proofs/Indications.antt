@@ -26,7 +26,9 @@ use Rattle.typing_rules.specs.declared.prefix.Found.{Found}
 use Rattle.typing_rules.specs.declared.prefix.Found.TheVariants.{Unknown}
 use Rattle.statement_typing.specs.Asked.{place_of, range_faults, range_seen}
 use Rattle.statement_typing.specs.Checks.{and_also, broken, fault_after, refuse}
-use Rattle.statement_typing.specs.Subtypes.{bound_in, bounds, bounds_for, constrained, constrained_faults, Constraint, free, heard, in_order, index_range, index_range_faults, indicated, indicated_faults, indication, indication_faults, loose, loose_faults, Mark, mark, mark_of, constraint_of, marked, marked_faults, name_place, new, no_index, no_index_faults, Noted, other, part, part_faults, part_subtype, part_subtype_faults, range_in, range_in_faults, static_range, static_range_faults, static_range_of, to_index, to_range, type_want, unsupported, unsupported_faults, whole_of, with_index, with_index_faults, with_range, with_range_faults}
+use Rattle.statement_typing.specs.declared.parts.Noted.{Noted}
+use Rattle.statement_typing.specs.declared.parts.Noted.TheVariants.{New}
+use Rattle.statement_typing.specs.Subtypes.{bound_in, bounds, bounds_for, constrained, constrained_faults, Constraint, free, heard, in_order, index_range, index_range_faults, indicated, indicated_faults, indication, indication_faults, loose, loose_faults, Mark, mark, mark_of, constraint_of, marked, marked_faults, name_place, no_index, no_index_faults, other, part, part_faults, part_subtype, part_subtype_faults, range_in, range_in_faults, static_range, static_range_faults, static_range_of, to_index, to_range, type_want, unsupported, unsupported_faults, whole_of, with_index, with_index_faults, with_range, with_range_faults}
 use Rattle.statement_laws.proofs.Telling.{Hears, Told, told_both, told_broken, told_heard, told_part, told_range, told_then, told_with}
 
 -- two parts, and a demand on both
@@ -68,7 +70,7 @@ loosely c b =
 
 pub with_range_told : (c : Scope) (o : ℕ) (f : Form) (b : tree.Bounds) → Told (with_range c (record { of = o; form = f }) b) (with_range_faults c (record { of = o; form = f }) b)
 with_range_told c o (form.Number d x) b =
-    told_with (λ (r : Bounds). new (record { of = o; form = form.Number d (record x { lo = r.first; hi = r.last }) })) (range_in c o x b) (range_in_faults c o x b) (range_in_told c o x b)
+    told_with (λ (r : Bounds). New (record { of = o; form = form.Number d (record x { lo = r.first; hi = r.last }) })) (range_in c o x b) (range_in_faults c o x b) (range_in_told c o x b)
 with_range_told c o form.Truth b = loosely c b
 with_range_told c o (form.Array i a t) b = loosely c b
 with_range_told c o (form.Record m n) b = loosely c b
@@ -87,7 +89,7 @@ pub with_index_told : (c : Scope) (o : ℕ) (f : Form) (a : Span) (r : tree.Rang
 with_index_told c o (form.Number d x) a r = no_index_told c a r
 with_index_told c o form.Truth a r = no_index_told c a r
 with_index_told c o (form.Array i None t) a r =
-    told_with (λ (v : Bounds). new (record { of = o; form = form.Array i (Some v) t })) (index_range c i r) (index_range_faults c i r) (index_range_told c i r)
+    told_with (λ (v : Bounds). New (record { of = o; form = form.Array i (Some v) t })) (index_range c i r) (index_range_faults c i r) (index_range_told c i r)
 with_index_told c o (form.Array i (Some v) t) a r = no_index_told c a r
 with_index_told c o (form.Record m n) a r = no_index_told c a r
 

@@ -38,7 +38,7 @@ pub within_both : (fs gs hs : List Refusal) → Within fs hs → Within gs hs �
 within_both [] gs hs h i g j = i g j
 within_both (x ∷ fs) gs hs h i g j = elim j [ inl e ↦ h g (inl e) | inr r ↦ within_both fs gs hs (λ z k. h z (inr k)) i g r ]
 
-is_later : (f g : Refusal) (fs : List Refusal) → NoneBefore f fs → IsIn g fs → is_before g f ≡ false
+pub is_later : (f g : Refusal) (fs : List Refusal) → NoneBefore f fs → IsIn g fs → is_before g f ≡ false
 is_later f g [] h i = absurd i
 is_later f g (x ∷ fs) h i = elim i [ inl e ↦ ap (λ (z : Refusal). is_before z f) e ∙ h.0 | inr r ↦ is_later f g fs h.1 r ]
 

@@ -25,7 +25,7 @@ use Rattle.statement_typing.specs.Checks.{fault_after}
 use Rattle.statement_typing.specs.Drafts.{next_subtype}
 use Rattle.statement_typing.specs.Files.{Home}
 use Rattle.statement_typing.specs.Objects.{entered_by, initial, initial_faults, object_faults_as, object_subtype, object_subtype_faults, object_value, present, settled_faults, settled_value, wanted}
-use Rattle.statement_typing.specs.Subtypes.{Noted}
+use Rattle.statement_typing.specs.declared.parts.Noted.{Noted}
 use Rattle.typing_laws.proofs.Merging.{first_after, first_as, first_in}
 use Rattle.statement_laws.proofs.Telling.{Told, told_both, told_then}
 use Rattle.statement_laws.proofs.Definitions.{initial_told, object_subtype_told}

@@ -6,8 +6,10 @@ use Rattle.front_codes.specs.declared.codes.Refusal.{Refusal}
 use Rattle.type_base.specs.Faults.{First}
 use Rattle.type_base.proofs.Firsts.{first_both, first_listed}
 use Rattle.statement_typing.specs.declared.draft.Draft.{Draft}
+use Rattle.statement_typing.specs.declared.parts.Answer.{Answer}
+use Rattle.statement_typing.specs.declared.parts.Answer.TheVariants.{Refused as refused, Typed as typed}
 use Rattle.statement_typing.specs.Files.{File}
-use Rattle.statement_typing.specs.Units.{answer, Answer, answer_by, files_declared, first_from, program_faults, program_of, refused, start, typed}
+use Rattle.statement_typing.specs.Units.{answer, answer_by, files_declared, first_from, program_faults, program_of, start}
 use Rattle.typing_laws.proofs.Merging.{first_alone, first_joined}
 
 -- ---- the first of a list
@@ -18,7 +20,7 @@ from_here f fs (g ∷ gs) h =
     first_joined (Some (first_from (first_of_two f g) gs)) fs (g ∷ []) gs
     (from_here (first_of_two f g) (fs ++ (g ∷ [])) gs (first_both (Some f) (Some g) fs (g ∷ []) h (first_listed (Some g))))
 
-first_is : (f : Refusal) (fs : List Refusal) → First (Some (first_from f fs)) (f ∷ fs)
+pub first_is : (f : Refusal) (fs : List Refusal) → First (Some (first_from f fs)) (f ∷ fs)
 first_is f fs = from_here f (f ∷ []) fs (first_listed (Some f))
 
 -- ---- answers

@@ -15,6 +15,7 @@ ghost use Rattle.type_base.specs.declared.world.World.{World};
 ghost use Rattle.typing_rules.specs.Fits.{found_fault, found_then};
 ghost use Rattle.typing_rules.specs.declared.prefix.Found.TheVariants.{Is};
 ghost use Rattle.statement_typing.specs.declared.draft.Draft.{Draft};
+ghost use Rattle.statement_typing.specs.declared.parts.Answer.TheVariants as answers;
 ghost use Rattle.statement_typing.specs.Asked.{place_of, range_faults, range_seen};
 ghost use Rattle.statement_typing.specs.Aspects.{aspects_faults, aspects_found, faults_in, global_items, item_condition, item_condition_faults, stated, stated_faults};
 ghost use Rattle.statement_typing.specs.Checks.{all_of};
@@ -26,7 +27,7 @@ ghost use Rattle.statement_typing.specs.Routines.{profile, profile_faults};
 ghost use Rattle.statement_typing.specs.Statements.{Around, Stage, body_faults, body_onto, empty, stmt, stmt_faults, stmts, stmts_faults};
 ghost use Rattle.statement_typing.specs.Subtypes.{index_range, index_range_faults, indicated, indicated_faults, part, part_faults, part_subtype, part_subtype_faults, range_in, range_in_faults, static_range, static_range_faults};
 ghost use Rattle.statement_typing.specs.Types.{definition, definition_faults, indexes, indexes_faults};
-ghost use Rattle.statement_typing.specs.Units.{answer, files_declared, program_faults, program_of, refused, start, typed};
+ghost use Rattle.statement_typing.specs.Units.{answer, files_declared, program_faults, program_of, start};
 
 /// What is refused of a range or of a subtype indication is the first of all its broken rules, by its place and its rule, in each scope;
 /// and nothing is refused where no rule is broken.
@@ -68,6 +69,6 @@ pub fn statements_are_first()
 
 /// A program in which no rule is broken is typed, and what is refused of another is the first of all its broken rules.
 pub fn programs_are_first()
-    ensures typed { (fs : List File) (order : List ℕ) → program_faults fs order ≡ [] → answer fs order ≡ typed (program_of (files_declared fs order (start fs))) }
-    ensures refused { (fs : List File) (order : List ℕ) (f : Refusal) → answer fs order ≡ refused f → First (Some f) (program_faults fs order) }
+    ensures typed { (fs : List File) (order : List ℕ) → program_faults fs order ≡ [] → answer fs order ≡ answers.Typed (program_of (files_declared fs order (start fs))) }
+    ensures refused { (fs : List File) (order : List ℕ) (f : Refusal) → answer fs order ≡ answers.Refused f → First (Some f) (program_faults fs order) }
 {}

@@ -1,4 +1,3 @@
-pub mod CaseParts
 pub mod Integers
 pub mod LastOnes
 pub mod ReadParts

@@ -1,4 +1,3 @@
 pub mod Arounds
 pub mod Bodies
-pub mod Cases
 pub mod Reads

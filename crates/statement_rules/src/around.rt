@@ -26,6 +26,7 @@ pub enum Returns {
 }
 
 /// Where statements stand. Contracts speak of it by `around_of`.
+#[derive(Clone, Copy)]
 pub struct Around<'a> {
     pub scope: &'a Scope<'a>,
     pub returns: &'a Returns,

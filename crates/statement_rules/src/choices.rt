@@ -3,7 +3,6 @@
 ghost use Rattle.std.specs.Prelude.{◌≡◌, map};
 ghost use Rattle.ada_values.specs.declared.place.Place.{Place};
 ghost use Rattle.front_codes.specs.declared.codes.Code.TheVariants.{L21};
-ghost use Rattle.statement_rules.specs.Cases.{found_as};
 ghost use Rattle.statement_typing.specs.Choices.{any_others, has_others, is_others, is_range, selected_as, selector_want};
 ghost use Rattle.statement_typing.specs.Statements.{case_at};
 ghost use Rattle.syntax_view.specs.View.{alternatives_of, case_choice_of, stmt};
@@ -16,20 +15,13 @@ use crate::checks::{and_also, with_refused, with_unknown};
 use ada_syntax::{Alternative as Whens, Choice as Written, Stmt as Statement};
 use ada_values::Place;
 use sqlite_items::Items;
+use statement_typing::Selected;
 use type_base::{Code, Demand, Refusal, Seen, Want, World, operand};
 use typed_units::{Action, Alternative, Expr, Stmt};
 use typing_rules::{Found, Prefix};
 
-/// A selector: the numbers of its type and of its subtype, and itself.
-#[derive(Drop)]
-pub struct Selected {
-    pub of: u32,
-    pub subtype: u32,
-    pub value: Expr,
-}
-
 fn selected_as(in_parentheses: bool, place: Place, seen: Seen) -> Found<Selected>
-    ensures { found_as result ≡ selected_as in_parentheses place seen }
+    ensures { result ≡ selected_as in_parentheses place seen }
 {
     match seen {
         Seen::Refused(refusal) => Found::Refused(refusal),
@@ -57,7 +49,7 @@ pub fn selector_read(
     place: Place,
     seen: Seen,
 ) -> Found<Selected>
-    ensures { found_as result ≡ selected_as in_parentheses place (operand world.now demand.Ordered L21 place seen) }
+    ensures { result ≡ selected_as in_parentheses place (operand world.now demand.Ordered L21 place seen) }
 {
     let read = operand(world, Demand::Ordered, Code::L21, place, seen);
     selected_as(in_parentheses, place, read)
@@ -65,7 +57,7 @@ pub fn selector_read(
 
 /// What the choices of a `case` are read for.
 pub fn selector_want(selector: &Found<Selected>) -> Want
-    ensures { result ≡ selector_want (found_as selector.now) }
+    ensures { result ≡ selector_want selector.now }
 {
     match selector {
         Found::Is(selected) => Want::Type(selected.of),
@@ -157,7 +149,7 @@ pub fn case_read(
     cover: Found<bool>,
     alternatives: Found<Items<Alternative<Stmt>>>,
 ) -> Found<Action<Stmt>>
-    ensures { (p : Place) → result ≡ case_at p (found_as selector) others cover alternatives }
+    ensures { (p : Place) → result ≡ case_at p selector others cover alternatives }
 {
     let heard = and_also(and_also(selector, others), cover);
     case_made(heard, alternatives)

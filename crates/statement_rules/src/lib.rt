@@ -16,9 +16,7 @@ mod stages;
 pub use around::{Around, Loop, Returns, moment_in};
 pub use assigned::{assignment_read, call_action, value_for_read, value_want};
 pub use checks::{and_also, heard, refuse, unless, with_refused, with_unknown};
-pub use choices::{
-    Selected, any_others, case_read, has_others, is_range, selector_read, selector_want,
-};
+pub use choices::{any_others, case_read, has_others, is_range, selector_read, selector_want};
 pub use conditions::{condition, truth_seen};
 pub use demanded::{assert_read, assume_read, checked_by, direction_of, moved_value, way_by};
 pub use endings::{ended, ends, exits, has_exit, returns};

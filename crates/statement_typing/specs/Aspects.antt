@@ -31,6 +31,9 @@ use Rattle.typing_rules.specs.Fits.{both, with_found}
 use Rattle.typing_rules.specs.Reading.{item_seen}
 use Rattle.statement_typing.specs.Asked.{item_faults, item_place}
 use Rattle.statement_typing.specs.declared.draft.Draft.{Draft}
+use Rattle.statement_typing.specs.declared.parts.Listed.{Listed}
+use Rattle.statement_typing.specs.declared.parts.Stated.{Stated}
+use Rattle.statement_typing.specs.declared.parts.Stated.TheVariants.{Global, Nothing, Post, Pre}
 use Rattle.statement_typing.specs.Checks.{all_of, broken, fault_beyond, fault_in, refuse, unless}
 use Rattle.statement_typing.specs.Subtypes.{Mark, mark, mark_of}
 use Rattle.statement_typing.specs.Files.{Home, place_at, scope}
@@ -56,11 +59,6 @@ abbrev pub item_condition_faults : Scope → Code → tree.Item → List Refusal
 item_condition_faults c r i = item_faults c (want.Type boolean) i ++ fault_beyond (item_seen c (want.Type boolean) i) (item_condition c r i)
 
 -- ---- Global -- L30
-
--- a global that is listed, with the place of its name
-pub record Listed : Type 0 where
-  pub place : Place
-  pub item : GlobalItem
 
 abbrev pub listed_as : Place → GlobalMode → Entity → tree.Suffixes → Found Listed
 listed_as p m (entity.Object k (object.Global g) a) tree.no_suffixes = Is (record { place = p; item = record { mode = m; global = g } })
@@ -161,24 +159,18 @@ faults_in (f ∷ fs) = fault_in f ++ faults_in fs
 
 -- ---- aspects -- L28
 
-pub data Stated : Type 0 where
-  pre : Contract → Stated
-  post : Contract → Stated
-  global : GlobalAspect → Stated
-  nothing : Stated
-
 abbrev pub contract_of : Place → Expr → Contract
 contract_of p x = record { place = p; condition = x }
 
 -- an aspect's value, which it must have
 abbrev pub stated : Home → World → Place → Option Word → Option tree.Item → Found Stated
-stated h w p (Some word.Pre) (Some i) = with_found (λ x. pre (contract_of p x)) (item_condition (scope h moment.Elsewhere w) L28 i)
+stated h w p (Some word.Pre) (Some i) = with_found (λ x. Pre (contract_of p x)) (item_condition (scope h moment.Elsewhere w) L28 i)
 stated h w p (Some word.Pre) None = refuse L28 p
-stated h w p (Some word.Post) (Some i) = with_found (λ x. post (contract_of p x)) (item_condition (scope h moment.InPost w) L28 i)
+stated h w p (Some word.Post) (Some i) = with_found (λ x. Post (contract_of p x)) (item_condition (scope h moment.InPost w) L28 i)
 stated h w p (Some word.Post) None = refuse L28 p
-stated h w p (Some word.Global) (Some i) = with_found (λ gs. global (record { place = p; items = gs })) (all_of (global_items h (scope h moment.Elsewhere w) i))
+stated h w p (Some word.Global) (Some i) = with_found (λ gs. Global (record { place = p; items = gs })) (all_of (global_items h (scope h moment.Elsewhere w) i))
 stated h w p (Some word.Global) None = refuse L30 p
-stated h w p _ i = Is nothing
+stated h w p _ i = Is Nothing
 
 abbrev pub stated_faults : Home → World → Place → Option Word → Option tree.Item → List Refusal
 stated_faults h w p (Some word.Pre) (Some i) = item_condition_faults (scope h moment.Elsewhere w) L28 i
@@ -225,10 +217,10 @@ aspects_faults h w first ns (a ∷ as') = aspect_faults h w first ns a ++ aspect
 -- ---- a subprogram with its aspects
 
 abbrev pub with_stated : ℕ → Stated → Draft → Draft
-with_stated q (pre c) d = record d { subs = changed_at q (λ x. record x { pre = Some c }) d.subs }
-with_stated q (post c) d = record d { subs = changed_at q (λ x. record x { post = Some c }) d.subs }
-with_stated q (global g) d = record d { subs = changed_at q (λ x. record x { global = Some g }) d.subs }
-with_stated q nothing d = d
+with_stated q (Pre c) d = record d { subs = changed_at q (λ x. record x { pre = Some c }) d.subs }
+with_stated q (Post c) d = record d { subs = changed_at q (λ x. record x { post = Some c }) d.subs }
+with_stated q (Global g) d = record d { subs = changed_at q (λ x. record x { global = Some g }) d.subs }
+with_stated q Nothing d = d
 
 abbrev pub with_found_aspect : ℕ → Found Stated → Draft → Draft
 with_found_aspect q (Is s) d = with_stated q s d

@@ -24,17 +24,13 @@ use Rattle.typing_rules.specs.declared.prefix.Found.TheVariants.{Refused, Unknow
 use Rattle.typing_rules.specs.declared.prefix.Prefix.{Prefix}
 use Rattle.typing_rules.specs.declared.prefix.Prefix.TheVariants as prefix
 use Rattle.typing_rules.specs.Fits.{both, found_then, with_found}
+use Rattle.statement_typing.specs.declared.parts.Selected.{Selected}
+use Rattle.statement_typing.specs.declared.parts.Spread.{Spread}
 use Rattle.statement_typing.specs.Asked.{high_place, low_place, name_prefix, place_of, range_faults, range_seen}
 use Rattle.statement_typing.specs.Checks.{all_of, fault_after, refuse, unless}
 use Rattle.statement_typing.specs.Subtypes.{bounds, part, part_faults, static_in, value_of_type}
 
 -- ---- the selector
-
--- the number of its type, and its subtype
-pub record Selected : Type 0 where
-  pub of : ℕ
-  pub subtype : ℕ
-  pub value : Expr
 
 abbrev pub in_parentheses : tree.Expr → Bool
 in_parentheses (tree.at s (tree.group as')) = true
@@ -51,12 +47,6 @@ abbrev pub selector : Scope → tree.Expr → Seen → Found Selected
 selector c e s = selected_as (in_parentheses e) (place_of c e) (operand c.world demand.Ordered L21 (place_of c e) s)
 
 -- ---- choices
-
--- a choice that isn't `others`: its place, and its values
-pub record Spread : Type 0 where
-  pub place : Place
-  pub choice : Choice
-  pub values : Bounds
 
 abbrev pub single : Place → ℤ → Spread
 single p n = record { place = p; choice = choice.Value n; values = bounds n n }

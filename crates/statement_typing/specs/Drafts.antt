@@ -9,8 +9,12 @@ use Rattle.type_base.specs.declared.world.Subtype.{Subtype}
 use Rattle.type_base.specs.declared.world.World.{World}
 use Rattle.type_base.specs.Lookups.{with_entity}
 use Rattle.statement_typing.specs.declared.draft.Draft.{Draft}
-use Rattle.statement_typing.specs.Subtypes.{Noted, known, new}
-use Rattle.statement_typing.specs.Types.{Definition, Group, Indexes, array_of, integer, record_of, single}
+use Rattle.statement_typing.specs.declared.parts.Definition.{Definition}
+use Rattle.statement_typing.specs.declared.parts.Definition.TheVariants.{ArrayOf, Integer, RecordOf, Single}
+use Rattle.statement_typing.specs.declared.parts.Group.{Group}
+use Rattle.statement_typing.specs.declared.parts.Indexes.{Indexes}
+use Rattle.statement_typing.specs.declared.parts.Noted.{Noted}
+use Rattle.statement_typing.specs.declared.parts.Noted.TheVariants.{Known, New}
 
 -- ---- what identifiers stand for
 
@@ -40,8 +44,8 @@ abbrev pub next_subtype : Draft → ℕ
 next_subtype d = length d.world.subtypes
 
 abbrev pub entered : Noted → Draft → Entered
-entered (known k) d = record { number = k; draft = d }
-entered (new s) d = record { number = next_subtype d; draft = with_subtype None s d }
+entered (Known k) d = record { number = k; draft = d }
+entered (New s) d = record { number = next_subtype d; draft = with_subtype None s d }
 
 abbrev pub with_components : (ℕ → ℕ) → List Span → ℕ → Draft → Draft
 with_components name [] k d = d
@@ -67,14 +71,14 @@ with_array name i e = with_first name (form.Array i.subtype i.bounds e.number) e
 
 -- An integer type has an entry with its base range right before its first subtype; other types have their parts before them.
 abbrev pub with_type : (ℕ → ℕ) → List ℕ → Definition → Draft → Entered
-with_type names name (integer c x) d = record {
+with_type names name (Integer c x) d = record {
   number = suc (next_subtype d);
   draft = with_subtype (Some name) (record { of = next_subtype d; form = form.Number c x })
       (with_subtype None (record { of = next_subtype d; form = form.Number c (record x { lo = x.base_lo; hi = x.base_hi }) }) d);
 }
-with_type names name (single f) d = with_first name f d
-with_type names name (array_of i n) d = with_array name i (entered n d)
-with_type names name (record_of gs) d = with_record name (length d.world.components) (with_groups names gs d)
+with_type names name (Single f) d = with_first name f d
+with_type names name (ArrayOf i n) d = with_array name i (entered n d)
+with_type names name (RecordOf gs) d = with_record name (length d.world.components) (with_groups names gs d)
 
 -- the literals of an enumeration, from a position on -- Ada RM 3.5.1(7)
 abbrev pub declare_literals : ℕ → ℕ → ℕ → List Span → Draft → Draft

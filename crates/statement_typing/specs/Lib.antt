@@ -11,6 +11,7 @@ pub mod Pragmas
 pub mod Routines
 pub mod Statements
 pub mod Subtypes
+pub mod Tellings
 pub mod Types
 pub mod Units
 pub mod Values

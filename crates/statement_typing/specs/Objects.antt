@@ -29,8 +29,9 @@ use Rattle.typing_rules.specs.declared.prefix.Found.TheVariants.{Refused, Unknow
 use Rattle.typing_rules.specs.Fits.{both, fit, found_then, with_found}
 use Rattle.statement_typing.specs.Asked.{place_of}
 use Rattle.statement_typing.specs.declared.draft.Draft.{Draft}
+use Rattle.statement_typing.specs.declared.parts.Noted.{Noted}
 use Rattle.statement_typing.specs.Checks.{broken, fault_after, refuse}
-use Rattle.statement_typing.specs.Subtypes.{Noted, indicated, indicated_faults, is_of_integers, part, part_faults, static_in, whole_of}
+use Rattle.statement_typing.specs.Subtypes.{indicated, indicated_faults, is_of_integers, part, part_faults, static_in, whole_of}
 use Rattle.statement_typing.specs.Values.{settled}
 use Rattle.statement_typing.specs.Files.{Home, place_at, rank, scope, spot_of}
 use Rattle.statement_typing.specs.Drafts.{Entered, declare, declare_all, entered, in_world, next_subtype}

@@ -1,5 +1,5 @@
 -- Profiles of subprograms. -- L27, Ada RM 6.1
-use Rattle.std.specs.Prelude.{ℕ, suc, ◌+◌, Bool, true, false, Option, Some, None, List, [], ◌∷◌, ◌++◌, map, length, ◌||◌, not}
+use Rattle.std.specs.Prelude.{ℕ, suc, ◌+◌, ◌-◌, Bool, true, false, Option, Some, None, List, [], ◌∷◌, ◌++◌, map, length, ◌||◌, not}
 use Rattle.ada_values.specs.declared.place.Place.{Place}
 use Rattle.ada_text.specs.declared.token.Span.{Span}
 use Rattle.ada_syntax.specs.declared.declarations.Mode.{Mode}
@@ -20,21 +20,15 @@ use Rattle.typing_rules.specs.declared.prefix.Found.{Found}
 use Rattle.typing_rules.specs.declared.prefix.Found.TheVariants.{Refused, Unknown, Is}
 use Rattle.typing_rules.specs.Fits.{both, found_then, with_found}
 use Rattle.statement_typing.specs.declared.draft.Draft.{Draft}
+use Rattle.statement_typing.specs.declared.parts.Formals.{Formals}
+use Rattle.statement_typing.specs.declared.parts.Noted.{Noted}
+use Rattle.statement_typing.specs.declared.parts.Noted.TheVariants.{Known, New}
+use Rattle.statement_typing.specs.declared.parts.Profile.{Profile}
 use Rattle.statement_typing.specs.Checks.{all_of, fault_after, refuse, unless}
-use Rattle.statement_typing.specs.Subtypes.{Noted, known, new, indicated, indicated_faults, is_constrained, name_place}
+use Rattle.statement_typing.specs.Subtypes.{indicated, indicated_faults, is_constrained, name_place}
 use Rattle.statement_typing.specs.Files.{Home}
 use Rattle.statement_typing.specs.Drafts.{declare, in_world}
 use Rattle.statement_typing.specs.Objects.{changed_at}
-
--- parameters of one mode and one subtype
-pub record Formals : Type 0 where
-  pub names : List Span
-  pub mode : typed.Mode
-  pub subtype : ℕ
-
-pub record Profile : Type 0 where
-  pub formals : List Formals
-  pub result : Option ℕ
 
 abbrev pub mode_of : Mode → typed.Mode
 mode_of mode'.Unstated = mode.In
@@ -51,8 +45,8 @@ is_out mode.InOut = false
 
 -- a subtype that has a name
 abbrev pub named_subtype : Place → Noted → Found ℕ
-named_subtype p (known k) = Is k
-named_subtype p (new s) = refuse L27 p
+named_subtype p (Known k) = Is k
+named_subtype p (New s) = refuse L27 p
 
 abbrev pub marked_subtype : Scope → tree.SubInd → Found ℕ
 marked_subtype c s = found_then (indicated c L27 s) (named_subtype (name_place c s.name))
@@ -117,7 +111,7 @@ with_formals h q (f ∷ fs) i d = with_formals h q fs (i + length f.names) (with
 abbrev pub with_routine : Home → ℕ → Span → ℕ → Option ℕ → Draft → Draft
 with_routine h q s first r d =
     declare h.file.number s (entity.Routine q)
-    (in_world (λ w. record w { routines = changed_at q (λ x. record { first = first; count = length w.formals; result = r }) w.routines })
+    (in_world (λ w. record w { routines = changed_at q (λ x. record { first = first; count = length w.formals - first; result = r }) w.routines })
     (record d { subs = changed_at q (λ x. record x { result = r }) d.subs }))
 
 abbrev pub with_profile : Home → ℕ → Span → Found Profile → Draft → Draft

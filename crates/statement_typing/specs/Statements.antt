@@ -33,12 +33,13 @@ use Rattle.typing_rules.specs.Fits.{both, fit, with_found}
 use Rattle.typing_rules.specs.Lookups.{with_parameter}
 use Rattle.typing_rules.specs.declared.prefix.Call.{Call}
 use Rattle.typing_rules.specs.Reading.{call_seen, faults, seen, target_seen}
+use Rattle.statement_typing.specs.declared.parts.Selected.{Selected}
 use Rattle.statement_typing.specs.Asked.{fault_of_name, name_faults, name_prefix, place_of, range_faults, range_seen}
 use Rattle.statement_typing.specs.Checks.{added, all_of, and_also, broken, fault_in, refuse, unless}
 use Rattle.statement_typing.specs.Subtypes.{heard, part, part_faults}
 use Rattle.statement_typing.specs.Aspects.{condition}
 use Rattle.statement_typing.specs.Pragmas.{checked, checked_faults, ways, ways_faults}
-use Rattle.statement_typing.specs.Choices.{Selected, choices_faults, cover, cover_faults, has_others, others_last, selector, selector_want, spreads_in}
+use Rattle.statement_typing.specs.Choices.{choices_faults, cover, cover_faults, has_others, others_last, selector, selector_want, spreads_in}
 
 -- the innermost loop: its number, and that of its parameter
 pub record Loop : Type 0 where

@@ -28,6 +28,9 @@ use Rattle.syntax_view.specs.Trees as tree
 use Rattle.typing_rules.specs.declared.prefix.Between.{Between}
 use Rattle.typing_rules.specs.Lookups.{entity_of}
 use Rattle.typing_rules.specs.Reading.{faults, seen}
+use Rattle.statement_typing.specs.declared.parts.Noted.{Noted}
+use Rattle.statement_typing.specs.declared.parts.Noted.TheVariants.{Known, New}
+use Rattle.statement_typing.specs.declared.parts.StaticRange.{StaticRange}
 use Rattle.statement_typing.specs.Asked.{high_place, low_place, place_of, range_faults, range_seen}
 use Rattle.typing_rules.specs.declared.prefix.Found.{Found}
 use Rattle.typing_rules.specs.declared.prefix.Found.TheVariants.{Refused, Unknown, Is}
@@ -115,15 +118,11 @@ loose_faults c None = []
 loose_faults c (Some b) = faults c want.Free b.low ++ faults c want.Free b.high
 
 -- a range of a discrete type with static bounds: the subtype that it names, or that of its type's base range, and the bounds -- L20, Ada RM 3.6(6), 3.6.1(3)
-pub record Static : Type 0 where
-  pub subtype : ℕ
-  pub bounds : Bounds
-
-abbrev pub static_range_of : Scope → tree.Range → Between → Found Static
+abbrev pub static_range_of : Scope → tree.Range → Between → Found StaticRange
 static_range_of c r o =
     both (λ l h. record { subtype = o.subtype; bounds = bounds l h }) (static_in L20 (low_place c r) o.low) (static_in L20 (high_place c r) o.high)
 
-abbrev pub static_range : Scope → Want → tree.Range → Found Static
+abbrev pub static_range : Scope → Want → tree.Range → Found StaticRange
 static_range c w r = found_then (range_seen c L20 w r) (static_range_of c r)
 
 abbrev pub static_range_faults : Scope → Want → tree.Range → List Refusal
@@ -136,14 +135,9 @@ indexes_in p q x b =
 
 -- ---- subtype indications -- Ada RM 3.2.2
 
--- a subtype that has an entry, or a new one
-pub data Noted : Type 0 where
-  known : ℕ → Noted
-  new : Subtype → Noted
-
 abbrev pub noted_subtype : World → Noted → Option Subtype
-noted_subtype w (known k) = subtype_at w k
-noted_subtype w (new s) = Some s
+noted_subtype w (Known k) = subtype_at w k
+noted_subtype w (New s) = Some s
 
 -- what identifiers and points stand for, and what follows them
 pub data Mark : Type 0 where
@@ -185,7 +179,7 @@ constraint_of (tree.suffixes s rest) b = other
 -- a range constraint is for numbers and positions
 abbrev pub with_range : Scope → Subtype → tree.Bounds → Found Noted
 with_range c s b = elim s.form as (λ f. Found Noted) [
-  | form.Number d x ↦ with_found (λ r. new (record { of = s.of; form = form.Number d (record x { lo = r.first; hi = r.last }) })) (range_in c s.of x b)
+  | form.Number d x ↦ with_found (λ r. New (record { of = s.of; form = form.Number d (record x { lo = r.first; hi = r.last }) })) (range_in c s.of x b)
   | form.Truth ↦ and_also (refuse L20 (place_of c b.low)) (loose c (Some b))
   | form.Array i a t ↦ and_also (refuse L20 (place_of c b.low)) (loose c (Some b))
   | form.Record m n ↦ and_also (refuse L20 (place_of c b.low)) (loose c (Some b))
@@ -200,7 +194,7 @@ with_range_faults c s b = elim s.form as (λ f. List Refusal) [
 ]
 
 -- an index constraint is for an array type without bounds
-abbrev pub bounds_for : Scope → tree.Range → Option Bounds → Static → Found Bounds
+abbrev pub bounds_for : Scope → tree.Range → Option Bounds → StaticRange → Found Bounds
 bounds_for c r None b = Unknown
 bounds_for c r (Some x) b = indexes_in (low_place c r) (high_place c r) x b.bounds
 
@@ -227,7 +221,7 @@ with_index c s a r = elim s.form as (λ f. Found Noted) [
   | form.Number d x ↦ no_index c a r
   | form.Truth ↦ no_index c a r
   | form.Array i b t ↦ elim b as (λ o. Found Noted) [
-    | None ↦ with_found (λ v. new (record { of = s.of; form = form.Array i (Some v) t })) (index_range c i r)
+    | None ↦ with_found (λ v. New (record { of = s.of; form = form.Array i (Some v) t })) (index_range c i r)
     | Some v ↦ no_index c a r
   ]
   | form.Record m n ↦ no_index c a r
@@ -244,7 +238,7 @@ with_index_faults c s a r = elim s.form as (λ f. List Refusal) [
 -- a constraint on a subtype, by the rule for a name of which no subtype can be made
 abbrev pub constrained : Scope → Code → Place → ℕ → Option Subtype → Constraint → Found Noted
 constrained c r p k None x = Unknown
-constrained c r p k (Some s) free = Is (known k)
+constrained c r p k (Some s) free = Is (Known k)
 constrained c r p k (Some s) (to_range b) = with_range c s b
 constrained c r p k (Some s) (to_index a i) = with_index c s a i
 constrained c r p k (Some s) other = refuse r p

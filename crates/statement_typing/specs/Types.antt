@@ -21,31 +21,18 @@ use Rattle.type_base.specs.Lookups.{form_at}
 use Rattle.type_base.specs.Scope.{Scope}
 use Rattle.syntax_view.specs.Trees as tree
 use Rattle.typing_rules.specs.Reading.{faults, seen}
+use Rattle.statement_typing.specs.declared.parts.Definition.{Definition}
+use Rattle.statement_typing.specs.declared.parts.Definition.TheVariants.{ArrayOf, Integer, RecordOf, Single}
+use Rattle.statement_typing.specs.declared.parts.Group.{Group}
+use Rattle.statement_typing.specs.declared.parts.Indexes.{Indexes}
+use Rattle.statement_typing.specs.declared.parts.Noted.{Noted}
+use Rattle.statement_typing.specs.declared.parts.StaticRange.{StaticRange}
 use Rattle.statement_typing.specs.Asked.{place_of}
 use Rattle.typing_rules.specs.declared.prefix.Found.{Found}
 use Rattle.typing_rules.specs.declared.prefix.Found.TheVariants.{Refused, Unknown, Is}
 use Rattle.typing_rules.specs.Fits.{both, found_then, with_found}
 use Rattle.statement_typing.specs.Checks.{all_of, and_also, broken, fault_after, refuse, unless}
-use Rattle.statement_typing.specs.Subtypes.{Mark, mark, Noted, Static, bounds, heard, in_order, index_range, index_range_faults, indicated, indicated_faults, integer_number, mark_of, noted_subtype, part, part_faults, part_subtype, part_subtype_faults, static_range, static_range_faults}
-
--- the components of a record that have one subtype
-pub record Group : Type 0 where
-  pub names : List Span
-  pub subtype : Noted
-
--- the index of an array: the number of its subtype, and the array's bounds
-pub record Indexes : Type 0 where
-  pub subtype : ℕ
-  pub bounds : Option Bounds
-
--- what a type's definition gives
-pub data Definition : Type 0 where
-  -- an integer type, by its first subtype
-  integer : Discrete → Scalar → Definition
-  -- an enumeration, Boolean, or what is derived from a composite type
-  single : Form → Definition
-  array_of : Indexes → Noted → Definition
-  record_of : List Group → Definition
+use Rattle.statement_typing.specs.Subtypes.{Mark, mark, bounds, heard, in_order, index_range, index_range_faults, indicated, indicated_faults, integer_number, mark_of, noted_subtype, part, part_faults, part_subtype, part_subtype_faults, static_range, static_range_faults}
 
 -- ---- integer types -- L20
 
@@ -113,7 +100,7 @@ abbrev pub discrete_subtype_faults : Scope → tree.Expr → List Refusal
 discrete_subtype_faults c (tree.at s (tree.name n)) = fault_after (Is s) (discrete_mark c (c.place s.from) (mark_of c n))
 discrete_subtype_faults c (tree.at s n) = faults c want.Free (tree.at s n) ++ broken L20 (c.place s.from)
 
-abbrev pub of_range : Found Static → Found Indexes
+abbrev pub of_range : Found StaticRange → Found Indexes
 of_range r = with_found (λ s. record { subtype = s.subtype; bounds = Some s.bounds }) r
 
 abbrev pub within_mark : Scope → Found ℕ → tree.Bounds → Found Indexes
@@ -155,23 +142,23 @@ groups_faults c (g ∷ gs) = part_subtype_faults c g.subtype ++ groups_faults c 
 
 -- a derived type has its parent's base range -- Ada RM 3.4
 abbrev pub derived_form : Form → Definition
-derived_form (form.Number discrete.Signed x) = integer discrete.Signed x
-derived_form (form.Number discrete.Modular x) = integer discrete.Modular x
-derived_form (form.Number discrete.Enumeration x) = single (form.Number discrete.Enumeration x)
-derived_form form.Truth = single form.Truth
-derived_form (form.Array i b t) = single (form.Array i b t)
-derived_form (form.Record m n) = single (form.Record m n)
+derived_form (form.Number discrete.Signed x) = Integer discrete.Signed x
+derived_form (form.Number discrete.Modular x) = Integer discrete.Modular x
+derived_form (form.Number discrete.Enumeration x) = Single (form.Number discrete.Enumeration x)
+derived_form form.Truth = Single form.Truth
+derived_form (form.Array i b t) = Single (form.Array i b t)
+derived_form (form.Record m n) = Single (form.Record m n)
 
 abbrev pub derived_of : Option Subtype → Found Definition
 derived_of None = Unknown
 derived_of (Some s) = Is (derived_form s.form)
 
 abbrev pub definition : Scope → tree.TypeForm → Found Definition
-definition c (tree.signed b) = with_found (λ r. integer discrete.Signed (signed_scalar r)) (signed c b)
-definition c (tree.modular e) = with_found (λ n. integer discrete.Modular (modular_scalar n)) (part c want.Free e (modulus c.world (place_of c e)))
-definition c (tree.enumeration ns) = Is (single (positions (length ns)))
-definition c (tree.array_of i s) = both array_of (indexes c i) (part_subtype c s)
-definition c (tree.record_of gs) = with_found record_of (all_of (map (group c) gs))
+definition c (tree.signed b) = with_found (λ r. Integer discrete.Signed (signed_scalar r)) (signed c b)
+definition c (tree.modular e) = with_found (λ n. Integer discrete.Modular (modular_scalar n)) (part c want.Free e (modulus c.world (place_of c e)))
+definition c (tree.enumeration ns) = Is (Single (positions (length ns)))
+definition c (tree.array_of i s) = both ArrayOf (indexes c i) (part_subtype c s)
+definition c (tree.record_of gs) = with_found RecordOf (all_of (map (group c) gs))
 definition c (tree.derived s) = found_then (indicated c L20 s) (λ n. derived_of (noted_subtype c.world n))
 
 abbrev pub definition_faults : Scope → tree.TypeForm → List Refusal

@@ -19,7 +19,6 @@ use Rattle.typed_units.specs.declared.programs.Sub.{Sub}
 use Rattle.typed_units.specs.declared.programs.Type as types
 use Rattle.typed_units.specs.declared.statements.Stmt.{Stmt}
 use Rattle.type_base.specs.declared.entities.Entity.TheVariants as entity
-use Rattle.type_base.specs.declared.entities.Meaning.{Meaning}
 use Rattle.type_base.specs.declared.seen.Moment.TheVariants as moment
 use Rattle.type_base.specs.declared.world.Component.{Component}
 use Rattle.type_base.specs.declared.world.Discrete.{Discrete}
@@ -31,14 +30,19 @@ use Rattle.type_base.specs.declared.world.Subtype.{Subtype}
 use Rattle.type_base.specs.declared.world.World.{World}
 use Rattle.type_base.specs.Lookups.{component_at, form_at}
 use Rattle.type_base.specs.Scope.{Scope}
-use Rattle.type_base.specs.Standard.{standard_subtypes}
+use Rattle.type_base.specs.Standard.{standard}
 use Rattle.syntax_view.specs.Trees as tree
 use Rattle.typing_rules.specs.declared.prefix.Found.{Found}
 use Rattle.typing_rules.specs.declared.prefix.Found.TheVariants.{Refused, Unknown, Is}
 use Rattle.statement_typing.specs.declared.draft.Draft.{Draft}
+use Rattle.statement_typing.specs.declared.parts.Answer.{Answer}
+use Rattle.statement_typing.specs.declared.parts.Answer.TheVariants as answers
+use Rattle.statement_typing.specs.declared.parts.Definition.{Definition}
+use Rattle.statement_typing.specs.declared.parts.Noted.{Noted}
+use Rattle.statement_typing.specs.declared.parts.Variable.{Variable}
 use Rattle.statement_typing.specs.Checks.{fault_in}
-use Rattle.statement_typing.specs.Subtypes.{Noted, indicated, indicated_faults, noted_subtype}
-use Rattle.statement_typing.specs.Types.{Definition, definition, definition_faults}
+use Rattle.statement_typing.specs.Subtypes.{indicated, indicated_faults, noted_subtype}
+use Rattle.statement_typing.specs.Types.{definition, definition_faults}
 use Rattle.statement_typing.specs.Files.{File, Home, place_at, rank, scope, spot_of}
 use Rattle.statement_typing.specs.Drafts.{Entered, declare, declare_literals, next_subtype, with_subtype, with_type}
 use Rattle.statement_typing.specs.Objects.{changed_at, object_declared, object_faults, present}
@@ -254,10 +258,6 @@ unit_faults h (tree.sub_unit s) d = sub_faults h s d
 
 -- ---- what the program declares: variables of packages, and subprograms, in the order of the files as they were named
 
-pub record Variable : Type 0 where
-  pub spot : Spot
-  pub name : List ℕ
-
 abbrev pub file_spelled : Option File → ℕ → List ℕ
 file_spelled None at = []
 file_spelled (Some f) at = f.spelled at
@@ -363,15 +363,12 @@ standard_names =
     ∷ Some (76 ∷ 111 ∷ 110 ∷ 103 ∷ 95 ∷ 76 ∷ 111 ∷ 110 ∷ 103 ∷ 95 ∷ 73 ∷ 110 ∷ 116 ∷ 101 ∷ 103 ∷ 101 ∷ 114 ∷ [])
     ∷ []
 
-abbrev pub no_meanings : File → List Meaning
-no_meanings f = []
-
 abbrev pub no_routine : Spot → Routine
 no_routine s = record { first = 0; count = 0; result = None }
 
 abbrev pub start : List File → Draft
 start fs = record {
-  world = record { subtypes = standard_subtypes; components = []; formals = []; routines = map no_routine (routines fs); constants = []; entities = map no_meanings fs };
+  world = record standard { routines = map no_routine (routines fs) };
   names = standard_names;
   globals = map blank_global (variables fs fs);
   subs = map (λ s. blank_sub (declared_text fs s)) (routines fs);
@@ -458,13 +455,9 @@ abbrev pub first_from : Refusal → List Refusal → Refusal
 first_from f [] = f
 first_from f (g ∷ gs) = first_from (first_of_two f g) gs
 
-pub data Answer : Type 0 where
-  refused : Refusal → Answer
-  typed : Program → Answer
-
 abbrev pub answer_by : List Refusal → Draft → Answer
-answer_by [] d = typed (program_of d)
-answer_by (f ∷ fs) d = refused (first_from f fs)
+answer_by [] d = answers.Typed (program_of d)
+answer_by (f ∷ fs) d = answers.Refused (first_from f fs)
 
 -- the typed program, or the first of the rules that are broken
 abbrev pub answer : List File → List ℕ → Answer

@@ -17,6 +17,7 @@ use Rattle.typed_units.specs.declared.operators.Composite.TheVariants as composi
 use Rattle.typing_rules.specs.declared.prefix.Found.{Found}
 use Rattle.typing_rules.specs.declared.prefix.Found.TheVariants.{Is}
 use Rattle.typing_rules.specs.Fits.{with_found}
+use Rattle.statement_typing.specs.declared.parts.Share.{Share}
 use Rattle.statement_typing.specs.Checks.{all_of, and_also, refuse, unless}
 
 -- ---- values that are static, or aggregates of static values -- L27
@@ -25,12 +26,6 @@ use Rattle.statement_typing.specs.Checks.{all_of, and_also, refuse, unless}
 pub record Valued : Type 0 where
   pub place : Place
   pub value : Found Value
-
--- what an association gives
-pub record Share : Type 0 where
-  pub ranges : List Bounds
-  pub others : Bool
-  pub value : Value
 
 abbrev pub is_empty : List Bounds → Bool
 is_empty [] = true

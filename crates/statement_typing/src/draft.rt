@@ -1,9 +1,10 @@
 //! A program that is being typed.
 
+use crate::subs::Subs;
 use ada_values::NameText;
 use sqlite_items::Items;
 use type_base::World;
-use typed_units::{Global, Local, Stmt, Sub};
+use typed_units::{Global, Local, Stmt};
 
 /// A program that is being typed.
 pub struct Draft {
@@ -14,7 +15,7 @@ pub struct Draft {
     pub globals: Items<Global>,
     /// All subprograms of the program. Before its declaration is typed one has its name alone, and before its body is typed
     /// no locals, statements and loops.
-    pub subs: Items<Sub>,
+    pub subs: Subs,
     /// The local objects of the subprogram whose body is typed, so far.
     pub locals: Items<Local>,
     /// The statements of its declarative part, so far.

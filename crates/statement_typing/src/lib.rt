@@ -3,5 +3,12 @@
 
 mod draft;
 pub mod laws;
+mod parts;
+mod subs;
 
 pub use draft::Draft;
+pub use parts::{
+    Answer, Definition, Formals, Group, Indexes, Listed, Noted, Profile, Selected, Share, Spread,
+    Stated, StaticRange, Variable,
+};
+pub use subs::Subs;

@@ -1,6 +1,6 @@
 //! The subtypes of a program.
 
-ghost use Rattle.std.specs.Prelude.{◌≡◌, [], ◌∷◌, ◌++◌, length, slice_get, OnErr, OnOk};
+ghost use Rattle.std.specs.Prelude.{All, ◌≡◌, [], ◌∷◌, ◌++◌, length, slice_get, OnErr, OnOk};
 ghost use Rattle.type_base.specs.Lookups.{form_in};
 ghost use Rattle.type_base.specs.Moduli.{HasModulus};
 ghost use Rattle.type_base.specs.Results.{computed, widened};
@@ -51,6 +51,13 @@ impl Subtypes {
         ensures { result ≡ length self.now }
     {
         self.items.len()
+    }
+
+    /// That each modulus is from 2 to 2^64.
+    pub fn are_sound(&self)
+        ensures { All HasModulus self.now }
+    {
+        let _items = &self.items;
     }
 
     /// The subtype of a number.

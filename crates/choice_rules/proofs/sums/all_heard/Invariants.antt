@@ -1,0 +1,10 @@
+use Rattle.std.proofs.Common.{◌≡◌, length}
+use Rattle.typing_rules.specs.declared.prefix.Found.TheVariants.{Is}
+use Rattle.choice_rules.specs.Steps.{heard_after}
+use Rattle.choice_rules.proofs.sums.all_heard.Given as goal
+
+abbrev pub invariant-loop-spreads : goal.invariant-loop-spreads
+invariant-loop-spreads l = heard_after l.state l.spreads ≡ heard_after (Is tt) l.initial.spreads
+
+abbrev pub decreases-loop-spreads : goal.decreases-loop-spreads
+decreases-loop-spreads l = length l.spreads

@@ -1,0 +1,2 @@
+mod Suffixed
+mod Turns

@@ -1,0 +1,7 @@
+-- Marks, in the words of the rules.
+use Rattle.routine_rules.specs.declared.marks.Mark as code
+use Rattle.statement_typing.specs.Subtypes.{Mark, mark}
+use Rattle.syntax_view.specs.View.{expr, suffixes_of}
+
+abbrev pub mark_as : code.Mark → Mark
+mark_as m = mark m.entity (suffixes_of expr m.rest.now)

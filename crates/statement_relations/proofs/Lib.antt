@@ -1,0 +1,4 @@
+mod Parted
+mod Asking
+mod Choosing
+mod Doing
