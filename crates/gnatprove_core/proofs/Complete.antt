@@ -43,7 +43,7 @@ tree_complete name bytes f a s text us only w p c =
 
 read_complete : (name bytes : List ℕ) (f : FirstForm) → Accepted bytes f → (s : Status) (text : List ℕ) → AnswersRead (file_named name bytes ∷ []) s text → Complete f s
 read_complete name bytes f a s text (inl w) p c = let d : status.Refused ≡ status.Proved = sym w.2.0 ∙ p in cc
-read_complete name bytes f a s text (inr w) p c = tree_complete name bytes f a s text w.0 (Only.only_tree bytes w.0 w.2.0) w.3 p c
+read_complete name bytes f a s text (inr w) p c = tree_complete name bytes f a s text w.0 (Only.only_tree bytes w.0 w.2.1.0) w.3 p c
 
 sized_complete : (name bytes : List ℕ) (f : FirstForm) → Accepted bytes f → (s : Status) (text : List ℕ) → (b : Bool) → AnswersSized b (file_named name bytes ∷ []) s text → Complete f s
 sized_complete name bytes f a s text true w p c = read_complete name bytes f a s text w p c

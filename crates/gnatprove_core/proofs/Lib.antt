@@ -3,3 +3,4 @@ pub mod Ending
 pub mod Soundness
 pub mod Complete
 pub mod Getting
+mod Reading

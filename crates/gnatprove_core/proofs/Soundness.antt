@@ -328,7 +328,7 @@ refused_sound name bytes n r f full e k c z place h =
 read_sound : (name bytes : List ℕ) → IsRowName name → length bytes < 2 ^ 32 - 1 → (f : FirstForm) → Accepted bytes f → (s : Status) (full : List ℕ)
     → AnswersRead (file_named name bytes ∷ []) s full → Sound name f full
 read_sound name bytes n short f a s full (inl w) = refused_sound name bytes n w.0 f full w.2.1
-read_sound name bytes n short f a s full (inr w) = tree_sound name bytes n short f a s full w.0 (Only.only_tree bytes w.0 w.2.0) w.3
+read_sound name bytes n short f a s full (inr w) = tree_sound name bytes n short f a s full w.0 (Only.only_tree bytes w.0 w.2.1.0) w.3
 
 sized_sound : (name bytes : List ℕ) → IsRowName name → (f : FirstForm) → Accepted bytes f → (s : Status) (full : List ℕ)
     → (b : Bool) → nat_le (source_bytes (file_named name bytes ∷ [])) most_source_bytes ≡ b → AnswersSized b (file_named name bytes ∷ []) s full → Sound name f full

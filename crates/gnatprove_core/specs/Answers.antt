@@ -5,14 +5,14 @@ use Rattle.std.specs.Io.KnownBytes.{append_known}
 use Rattle.keeper_io.specs.Causes.{Rose}
 use Rattle.keeper_io.specs.Maps.{Map, Holds}
 use Rattle.keeper_io.specs.Pieces.{AddsPart}
-use Rattle.name_library.specs.declared.links.Usage.{Usage as Link}
 use Rattle.name_resolver.specs.declared.files.SourceFile.{SourceFile}
 use Rattle.front_codes.specs.declared.codes.Refusal.{Refusal}
 use Rattle.front_codes.specs.Words.{word_of}
 use Rattle.unit_front.specs.declared.files.NamedBytes.{NamedBytes}
 use Rattle.unit_front.specs.declared.files.FrontRefusal.TheVariants as front
 use Rattle.unit_front.specs.Reading.{texts_of}
-use Rattle.unit_front.specs.Naming.{AreNamed, AreRefused}
+use Rattle.unit_front.specs.Accepting.{AreTyped, AreUntyped}
+use Rattle.typed_units.specs.declared.programs.Program.{Program}
 use Rattle.first_form.specs.declared.form.FirstForm.{FirstForm}
 use Rattle.first_form.specs.Tree.{form_of}
 use Rattle.first_form.specs.Places.{first_unknown}
@@ -81,11 +81,11 @@ abbrev pub AnswersTrees : List NamedBytes → List SourceFile → Status → Lis
 AnswersTrees (g ∷ []) (s ∷ []) status text = AnswersTree g.name (form_of g.bytes s.unit) status text
 AnswersTrees got ss status text = Refuses (name_at got 0) 1 1 (codes "NotBuilt") status text
 
--- the files are refused, or they have trees and obey the rules of names
+-- the files are refused, or they have trees and obey the rules of names and of types
 abbrev pub AnswersRead : List NamedBytes → Status → List ℕ → Type 0
 AnswersRead got status text =
-    ((r : Refusal) × AreRefused (texts_of got) (front.Refused r) × RefusesAt got r status text)
-    ⊎ ((ss : List SourceFile) × (links : List Link) × AreNamed (texts_of got) ss links × AnswersTrees got ss status text)
+    ((r : Refusal) × AreUntyped (texts_of got) (front.Refused r) × RefusesAt got r status text)
+    ⊎ ((ss : List SourceFile) × (p : Program) × AreTyped (texts_of got) ss p × AnswersTrees got ss status text)
 
 abbrev pub PassesLimit : List ℕ → Status → List ℕ → Type 0
 PassesLimit quantity status text = (status ≡ Limit) × (text ≡ limit_text quantity)

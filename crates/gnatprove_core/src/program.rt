@@ -16,7 +16,7 @@ use first_form::{FirstForm, FormFault, first_unknown, form_of};
 use front_codes::{Refusal, text_of};
 use name_resolver::SourceFile;
 use std::alloc::Global;
-use unit_front::{FrontRefusal, NamedBytes, name_files};
+use unit_front::{FrontRefusal, NamedBytes, accept};
 
 /// The answer to a form.
 fn answer_form(alloc: Global, name: &NameText, form: &FirstForm) -> Result<Answer, Starved>
@@ -101,7 +101,7 @@ pub fn answer_read(alloc: Global, files: &[NamedBytes]) -> Result<Answer, Starve
     requires short { source_bytes files.now ≤ most_source_bytes }
     ensures { IfOk result (λ answer. AnswersRead files.now answer.status answer.text) }
 {
-    match name_files(alloc, files) {
+    match accept(alloc, files) {
         Ok(program) => answer_trees(alloc, files, program.files.as_slice()),
         Err(FrontRefusal::Refused(refused)) => answer_refusal(alloc, files, refused),
         Err(FrontRefusal::Starved) => Err(Starved),

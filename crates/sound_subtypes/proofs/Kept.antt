@@ -177,17 +177,15 @@ modulus_is_sound c e =
     (anything (integer_number c.world (place_of c e) (seen c want.Free e)))
     (λ n h. unless_has IsModulusOf (within (pos 2) (pos 4294967296) n) L20 (place_of c e) n (within_is_modulus n))
 
-derived_form_is_sound : (f : Form) → HasModulusIn f → IsSoundDefinition (derived_form f)
-derived_form_is_sound (form.Number discrete.Signed x) h = h
-derived_form_is_sound (form.Number discrete.Modular x) h = h
-derived_form_is_sound (form.Number discrete.Enumeration x) h = h
-derived_form_is_sound form.Truth h = tt
-derived_form_is_sound (form.Array i b t) h = tt
-derived_form_is_sound (form.Record m n) h = tt
+derived_form_is_sound : (p : Place) (f : Form) → HasModulusIn f → IfIs IsSoundDefinition (derived_form p f)
+derived_form_is_sound p (form.Number k x) h = h
+derived_form_is_sound p form.Truth h = tt
+derived_form_is_sound p (form.Array i b t) h = tt
+derived_form_is_sound p (form.Record m n) h = tt
 
-derived_is_sound : (o : Option Subtype) → IfSome o HasModulus → IfIs IsSoundDefinition (derived_of o)
-derived_is_sound None h = tt
-derived_is_sound (Some s) h = derived_form_is_sound s.form h
+derived_is_sound : (p : Place) (o : Option Subtype) → IfSome o HasModulus → IfIs IsSoundDefinition (derived_of p o)
+derived_is_sound p None h = tt
+derived_is_sound p (Some s) h = derived_form_is_sound p s.form h
 
 group_is_sound : (c : Scope) → All HasModulus c.world.subtypes → (g : tree.Component) → IfIs IsSoundGroup (group c g)
 group_is_sound c h g = with_found_has IsSound IsSoundGroup (λ n. record { names = g.names; subtype = n }) (part_subtype c g.subtype) (part_subtype_is_sound c g.subtype h) (λ n i. i)
@@ -202,7 +200,8 @@ definition_is_sound c (tree.array_of i s) h =
 definition_is_sound c (tree.record_of gs) h =
     with_found_has (All IsSoundGroup) IsSoundDefinition RecordOf (all_of (map (group c) gs)) (all_onto_has IsSoundGroup (group c) (group_is_sound c h) gs (Is []) (All-nil IsSoundGroup)) (λ xs i. i)
 definition_is_sound c (tree.derived s) h =
-    found_then_keeps IsSound IsSoundDefinition (indicated c L20 s) (λ n. derived_of (noted_subtype c.world n)) (indicated_is_sound c L20 s h) (λ n i. derived_is_sound (noted_subtype c.world n) (noted_is_sound c.world n h i))
+    found_then_keeps IsSound IsSoundDefinition (indicated c L20 s) (λ n. derived_of (name_place c s.name) (noted_subtype c.world n)) (indicated_is_sound c L20 s h)
+    (λ n i. derived_is_sound (name_place c s.name) (noted_subtype c.world n) (noted_is_sound c.world n h i))
 
 -- ---- the same of what has been read
 

@@ -118,15 +118,6 @@ groups_told c (g ∷ gs) done fs h =
 
 -- ---- definitions
 
-derived_fault : (s : Option Subtype) → found_fault (derived_of s) ≡ None
-derived_fault None = refl
-derived_fault (Some s) = refl
-
-derived_is : (w : World) (n : Found Noted) → found_fault (found_then n (λ m. derived_of (noted_subtype w m))) ≡ found_fault n
-derived_is w (Refused f) = refl
-derived_is w Unknown = refl
-derived_is w (Is m) = derived_fault (noted_subtype w m)
-
 pub definition_told : (c : Scope) (t : tree.TypeForm) → Told (definition c t) (definition_faults c t)
 definition_told c (tree.signed b) = told_with (λ r. Integer discrete.Signed (signed_scalar r)) (signed c b) (signed_faults c b) (signed_told c b)
 definition_told c (tree.modular e) =
@@ -138,7 +129,7 @@ definition_told c (tree.array_of i s) =
 definition_told c (tree.record_of gs) =
     told_with RecordOf (all_of (map (group c) gs)) (groups_faults c gs) (groups_told c gs (Is []) [] refl)
 definition_told c (tree.derived s) =
-    first_as (found_fault (definition c (tree.derived s))) (found_fault (indicated c L20 s)) (indicated_faults c L20 s) (derived_is c.world (indicated c L20 s)) (indicated_told c L20 s)
+    told_then (indicated c L20 s) (λ n. derived_of (name_place c s.name) (noted_subtype c.world n)) (indicated_faults c L20 s) (indicated_told c L20 s)
 
 -- ---- objects
 

@@ -69,7 +69,8 @@ with_record name first d = with_first name (form.Record first (length d.world.co
 abbrev pub with_array : List ℕ → Indexes → Entered → Entered
 with_array name i e = with_first name (form.Array i.subtype i.bounds e.number) e.draft
 
--- An integer type has an entry with its base range right before its first subtype; other types have their parts before them.
+-- An integer type, and a derived enumeration, has an entry with its base range right before its first subtype; other types have their
+-- parts before them.
 abbrev pub with_type : (ℕ → ℕ) → List ℕ → Definition → Draft → Entered
 with_type names name (Integer c x) d = record {
   number = suc (next_subtype d);

@@ -32,7 +32,7 @@ use Rattle.typing_rules.specs.declared.prefix.Found.{Found}
 use Rattle.typing_rules.specs.declared.prefix.Found.TheVariants.{Refused, Unknown, Is}
 use Rattle.typing_rules.specs.Fits.{both, found_then, with_found}
 use Rattle.statement_typing.specs.Checks.{all_of, and_also, broken, fault_after, refuse, unless}
-use Rattle.statement_typing.specs.Subtypes.{Mark, mark, bounds, heard, in_order, index_range, index_range_faults, indicated, indicated_faults, integer_number, mark_of, noted_subtype, part, part_faults, part_subtype, part_subtype_faults, static_range, static_range_faults}
+use Rattle.statement_typing.specs.Subtypes.{Mark, mark, bounds, heard, in_order, index_range, index_range_faults, indicated, indicated_faults, integer_number, mark_of, name_place, noted_subtype, part, part_faults, part_subtype, part_subtype_faults, static_range, static_range_faults}
 
 -- ---- integer types -- L20
 
@@ -140,18 +140,19 @@ abbrev pub groups_faults : Scope → List tree.Component → List Refusal
 groups_faults c [] = []
 groups_faults c (g ∷ gs) = part_subtype_faults c g.subtype ++ groups_faults c gs
 
--- a derived type has its parent's base range -- Ada RM 3.4
-abbrev pub derived_form : Form → Definition
-derived_form (form.Number discrete.Signed x) = Integer discrete.Signed x
-derived_form (form.Number discrete.Modular x) = Integer discrete.Modular x
-derived_form (form.Number discrete.Enumeration x) = Single (form.Number discrete.Enumeration x)
-derived_form form.Truth = Single form.Truth
-derived_form (form.Array i b t) = Single (form.Array i b t)
-derived_form (form.Record m n) = Single (form.Record m n)
+-- a derived type has its parent's base range; nothing is derived from Boolean -- L20, Ada RM 3.4
+abbrev pub derived_form : Place → Form → Found Definition
+derived_form p (form.Number k x) = Is (Integer k x)
+derived_form p form.Truth = refuse L20 p
+derived_form p (form.Array i b t) = Is (Single (form.Array i b t))
+derived_form p (form.Record m n) = Is (Single (form.Record m n))
 
-abbrev pub derived_of : Option Subtype → Found Definition
-derived_of None = Unknown
-derived_of (Some s) = Is (derived_form s.form)
+abbrev pub derived_of : Place → Option Subtype → Found Definition
+derived_of p None = Unknown
+derived_of p (Some s) = derived_form p s.form
+
+abbrev pub derived : Scope → tree.SubInd → Found Definition
+derived c s = found_then (indicated c L20 s) (λ n. derived_of (name_place c s.name) (noted_subtype c.world n))
 
 abbrev pub definition : Scope → tree.TypeForm → Found Definition
 definition c (tree.signed b) = with_found (λ r. Integer discrete.Signed (signed_scalar r)) (signed c b)
@@ -159,7 +160,7 @@ definition c (tree.modular e) = with_found (λ n. Integer discrete.Modular (modu
 definition c (tree.enumeration ns) = Is (Single (positions (length ns)))
 definition c (tree.array_of i s) = both ArrayOf (indexes c i) (part_subtype c s)
 definition c (tree.record_of gs) = with_found RecordOf (all_of (map (group c) gs))
-definition c (tree.derived s) = found_then (indicated c L20 s) (λ n. derived_of (noted_subtype c.world n))
+definition c (tree.derived s) = derived c s
 
 abbrev pub definition_faults : Scope → tree.TypeForm → List Refusal
 definition_faults c (tree.signed b) = signed_faults c b
@@ -167,4 +168,4 @@ definition_faults c (tree.modular e) = part_faults c want.Free e (modulus c.worl
 definition_faults c (tree.enumeration ns) = []
 definition_faults c (tree.array_of i s) = indexes_faults c i ++ part_subtype_faults c s
 definition_faults c (tree.record_of gs) = groups_faults c gs
-definition_faults c (tree.derived s) = indicated_faults c L20 s
+definition_faults c (tree.derived s) = indicated_faults c L20 s ++ fault_after (indicated c L20 s) (derived c s)

@@ -25,6 +25,9 @@ pub fn bounds_and_moduli()
     ensures modulus { local_breaks (type_of 190 (tree.modular (num 300 256))) ≡ [] }
     ensures of_truth { local_breaks (subtype_of 190 (ranged 200 (id 301) (id 402))) ≡ refusal rule.L20 301 }
     ensures of_literals { local_breaks (subtype_of 190 (ranged 273 (id 370) (id 471))) ≡ [] }
+    ensures derived { local_breaks (type_of 190 (tree.derived (mark 203))) ≡ [] }
+    ensures derived_from_literals { local_breaks (type_of 190 (tree.derived (mark 273))) ≡ [] }
+    ensures derived_from_truth { local_breaks (type_of 190 (tree.derived (mark 200))) ≡ refusal rule.L20 200 }
 {}
 
 /// Targets are variables, and values have their types. -- L8

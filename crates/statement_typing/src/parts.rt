@@ -41,7 +41,7 @@ pub struct Indexes {
 
 /// What the definition of a type gives (Ada RM 3.2.1).
 pub enum Definition {
-    /// An integer type, by its first subtype.
+    /// An integer type, or a derived enumeration, by its first subtype.
     Integer(Discrete, Scalar),
     /// An enumeration, Boolean, or what is derived from a composite type.
     Single(Form),

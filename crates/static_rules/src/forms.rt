@@ -139,16 +139,16 @@ pub fn positions(count: usize) -> Form
     )
 }
 
-/// The definition of a type that is derived from one of this form.
-pub fn derived_form(form: Form) -> Definition
-    ensures { result ≡ derived_form form }
+/// The type that is derived from one of this form: nothing is derived from Boolean, which is L20 at the place.
+pub fn derived_form(place: Place, form: Form) -> Found<Definition>
+    ensures { result ≡ derived_form place form }
 {
     match form {
-        Form::Number(Discrete::Signed, scalar) => Definition::Integer(Discrete::Signed, scalar),
-        Form::Number(Discrete::Modular, scalar) => Definition::Integer(Discrete::Modular, scalar),
-        Form::Number(Discrete::Enumeration, _)
-        | Form::Truth
-        | Form::Array { .. }
-        | Form::Record { .. } => Definition::Single(form),
+        Form::Number(discrete, scalar) => Found::Is(Definition::Integer(discrete, scalar)),
+        Form::Truth => Found::Refused(Refusal {
+            code: Code::L20,
+            place,
+        }),
+        Form::Array { .. } | Form::Record { .. } => Found::Is(Definition::Single(form)),
     }
 }

@@ -17,6 +17,7 @@ ghost use Rattle.typing_rules.specs.Reading as reading;
 use crate::Starved;
 use crate::indexes::indexes;
 use ada_syntax::{Bounds as Limits, Component, Expr, Index, SubInd, TypeForm};
+use ada_values::Place;
 use expression_reader::seen;
 use front_codes::first_of_two;
 use name_values::added;
@@ -157,16 +158,16 @@ fn record_of(groups: Found<Items<Group>>) -> Found<Definition>
 
 // ---- definitions
 
-/// The type that is derived from what is found.
-fn derived(world: &World, parent: Found<Noted>) -> Found<Definition>
-    ensures { result ≡ found_then parent (λ n. derived_of (noted_subtype world.now n)) }
+/// The type that is derived from what is found at a place.
+fn derived(world: &World, place: Place, parent: Found<Noted>) -> Found<Definition>
+    ensures { result ≡ found_then parent (λ n. derived_of place (noted_subtype world.now n)) }
 {
     match parent {
         Found::Refused(refusal) => Found::Refused(refusal),
         Found::Unknown => Found::Unknown,
         Found::Is(noted) => match noted_subtype(world, noted) {
             None => Found::Unknown,
-            Some(subtype) => Found::Is(derived_form(subtype.form)),
+            Some(subtype) => derived_form(place, subtype.form),
         },
     }
 }
@@ -213,8 +214,9 @@ pub fn definition(
             Ok(record_of(groups))
         }
         TypeForm::Derived(parent) => {
+            let place = scope.place(parent.name.span.from);
             let parent = indicated(alloc, scope, Code::L20, parent)?;
-            Ok(derived(scope.world(), parent))
+            Ok(derived(scope.world(), place, parent))
         }
     }
 }

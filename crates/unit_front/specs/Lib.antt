@@ -1,3 +1,4 @@
+pub mod Accepting
 pub mod Reading
 pub mod Sofar
 pub mod Naming

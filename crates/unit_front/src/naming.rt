@@ -30,6 +30,17 @@ impl Drop for NamedFiles {
     }
 }
 
+impl NamedFiles {
+    /// The files alone.
+    pub fn into_files(self) -> SourceList
+        ensures { result ≡ self.files }
+    {
+        let NamedFiles { files, named } = self;
+        drop(named);
+        files
+    }
+}
+
 /// The texts of files with their syntax trees and what their names stand for, or the first refusal: lexical errors of all files
 /// come before those of the grammar, these before broken rules of names, and then the order of files and places decides. A file
 /// is told by its number from 0.
