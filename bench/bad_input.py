@@ -447,7 +447,7 @@ def main():
             files, wanted = make(count)
             runs.append((*run(path, files), wanted, sum(map(len, files.values()))))
         (_, _, before, _, _, less), (status, said, took, memory, wanted, more) = runs
-        growth = took / max(before, 0.004) / (more / less)
+        growth = took / max(before, 0.004) / max(4, more / less)
         verdict = "" if all(r[1] == r[4] for r in runs) else f" ! wanted {wanted}"
         verdict += " ! grows faster than linear" if took > 0.1 and growth > 2 else ""
         wrong += bool(verdict)

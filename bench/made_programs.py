@@ -186,15 +186,13 @@ class Maker:
             parts = list(kind.parts)
             rng.shuffle(parts)
             return "(" + ", ".join(f"{n} => {self.value(k, scope, depth)}" for n, k in parts) + ")"
-        item, index, form = kind.item, kind.index, rng.randint(0, 3)
+        item, index, form = kind.item, kind.index, rng.randint(0, 2)
         if form == 0 and kind.last > kind.first:
             return "(" + ", ".join(self.value(item, scope, depth) for _ in range(kind.first, kind.last + 1)) + ")"
         if form == 1 and kind.last > kind.first:
             middle = rng.randint(kind.first, kind.last - 1)
             return f"({shown(index, kind.first)} .. {shown(index, middle)} => {self.value(item, scope, depth)}, others => {self.value(item, scope, depth)})"
-        if form == 2 and kind.last > kind.first + 1:
-            return f"({shown(index, kind.first)} | {shown(index, kind.last)} => {self.value(item, scope, depth)}, others => {self.value(item, scope, depth)})"
-        if form == 3:
+        if form == 2:
             return "(" + ", ".join(f"{shown(index, n)} => {self.value(item, scope, depth)}" for n in range(kind.first, kind.last + 1)) + ")"
         return f"(others => {self.value(item, scope, depth)})"
 
@@ -538,7 +536,7 @@ class Maker:
         rng = self.rng
         name, formals, result = self.profile()
         heading = self.heading(name, formals, result)
-        aspects = self.aspects(name, formals, result, self.scope if where == "spec" else self.within())
+        aspects = self.aspects(name, formals, result, self.within() if where == "body" else self.scope)
         inner = self.within()
         inner.objects = [(n, k, w and result is None) for n, k, w in inner.objects]
         inner.objects += [(n, k, m != "in") for n, k, m in formals]

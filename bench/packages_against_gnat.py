@@ -25,8 +25,8 @@ from concurrent.futures import ThreadPoolExecutor
 from made_programs import changed, program_of
 
 
-class NoEnd(Exception):
-    """GNAT doesn't end on some wrong programs."""
+class NoAnswer(Exception):
+    """GNAT doesn't end on some wrong programs, and can't hold some values."""
 
 
 def in_folder(text):
@@ -47,12 +47,14 @@ def gnat(text, keep=None):
     except subprocess.TimeoutExpired:
         os.killpg(child.pid, signal.SIGKILL)
         child.communicate()
-        raise NoEnd from None
+        raise NoAnswer from None
     finally:
         if keep:
             shutil.copytree(folder, keep, dirs_exist_ok=True)
         shutil.rmtree(folder)
     errors = [l for l in err.splitlines() if re.match(r"\S+:\d+:\d+: ", l) and "warning:" not in l]
+    if any("capacity exceeded" in e for e in errors):
+        raise NoAnswer
     return errors or ([err.strip() or "refused"] if child.returncode else [])
 
 
@@ -81,44 +83,69 @@ def programs(args):
             yield f"{seed}/{turn}", changed(whole, random.Random(seed * 1000 + turn))
 
 
-# What the program refuses and GNAT accepts, by design. A code alone is one whose rule Ada doesn't have at all, so that each of its
-# refusals is by design; of the others only what the text at the place shows.
+# What the program refuses and GNAT accepts in a changed program, by design. A whole program is to be accepted.
 BY_DESIGN = {
+    "Unexpected": "the grammar leaves it out: arrays of two indexes, bars in aggregates, block statements",
     "Overloaded": "no overloading",
     "LeftOut": "constructs that the profile leaves out",
     "TooDeep": "at most 200 levels",
     "TooWide": "static values have 128 bits",
+    "L4": "no logical operators of modular types and of arrays",
+    "L5": "equality of arrays of one constrained subtype",
+    "L6": "no order of arrays or of Boolean",
+    "L7": "no value as the choice of a membership, and none of Boolean",
+    "L8": "arrays of one constrained subtype",
+    "L11": "arrays of one constrained subtype",
     "L13": "the statements of a function end with return",
+    "L16": "the lengths of aggregates, of which GNAT only warns",
+    "L17": "aggregates of arrays where a constrained subtype is known",
+    "L18": "no conversion of arrays",
+    "L19": "no attributes of Boolean, no 'Range of a scalar subtype, no 'Pos and 'Val of numbers, no 'Succ and 'Pred of modular types",
+    "L20": "bounds are static, in order, within the parent; nothing of Boolean",
+    "L21": "no selector of Boolean; a loop's parameter has the subtype that its range names, else its type",
+    "L22": "no range of Boolean",
+    "L23": "no range of Boolean",
+    "L25": "invariants and a variant are neighbours, and a variant is an integer",
+    "L26": "branches that are arrays have one constrained subtype",
+    "L27": "static initial values in packages; no out parameter of an unconstrained array",
+    "L29": "a number without a type, as 7 + 7, is a number until it meets one",
+    "L30": "Global has variables of packages alone",
 }
 
+# What GNAT refuses and the program accepts, by design, by GNAT's words
+GNAT_ALONE = [
+    (r"value not in range of|static expression fails Constraint_Check", "a static value in its base range is given to a subtype, or converted: a range check that fails"),
+    (r"(minimum|maximum) allowed choice value", "a loop's parameter has the subtype that its range names, else its type"),
+    (r"\(inherited\)", "a derived type has no subprograms of its parent"),
+    (r"operator for .* is not directly visible", "operators are visible wherever their type is named"),
+]
 
-def design(code, line, column):
-    """The reason for which Ada accepts what stands here and the profile doesn't, or none."""
-    return BY_DESIGN.get(code)
 
-
-def sorted_out(whole, errors, said, text):
+def sorted_out(whole, errors, said):
     """What the two answers are to one another; those that begin with ! are for a reader."""
     found = re.match(r"(\S+?):(\d+):(\d+): error: (\w+)$", said)
     if not found:
         return f"! no answer: {said[:60]}"
-    name, line, column, code = found.group(1), int(found.group(2)), int(found.group(3)), found.group(4)
+    code = found.group(4)
     if code == "NotBuilt":
         if not errors:
             return "both accept"
-        return "! GNAT refuses what was made to be accepted" if whole else "! GNAT alone refuses"
+        if whole:
+            return "! GNAT refuses what was made to be accepted"
+        reasons = [reason for words, reason in GNAT_ALONE if any(re.search(words, e) for e in errors)]
+        return f"by design, GNAT alone: {reasons[0]}" if reasons else "! GNAT alone refuses"
     if errors:
         return "both refuse" if not whole else "! both refuse what was made to be accepted"
-    reason = design(code, text[name].split("\n")[line - 1], column)
+    reason = None if whole else BY_DESIGN.get(code)
     return f"by design, {code}: {reason}" if reason else f"! the program alone refuses: {code}"
 
 
 def judged(args, label, text, said):
     try:
         errors = gnat(text)
-        verdict = sorted_out(label.endswith("/0"), errors, said, text)
-    except NoEnd:
-        return label, "passed over: GNAT doesn't end", [], said
+        verdict = sorted_out(label.endswith("/0"), errors, said)
+    except NoAnswer:
+        return label, "passed over: GNAT has no answer", [], said
     if args.k and verdict.startswith("!"):
         shutil.copytree(in_folder(text), f"{args.k}/{label.replace('/', '_')}", dirs_exist_ok=True)
     return label, verdict, errors, said
@@ -138,6 +165,7 @@ def main():
     asked.add_argument("-c", type=int, default=1, help="changes of each program")
     asked.add_argument("-k", help="a folder for the programs on which the two differ")
     asked.add_argument("-j", type=int, default=1, help="how many are judged side by side")
+    asked.add_argument("-v", action="store_true", help="also tells the programs on which the two differ by design")
     asked.add_argument("--write", help="a file for the programs, as cases")
     asked.add_argument("--answers", help="a file of the answers to them")
     asked.add_argument("program", nargs="?")
@@ -151,6 +179,7 @@ def main():
         return 0
     if args.answers:
         lines = open(args.answers).read().splitlines()
+        # a report has lines of its own, of which the first is taken
         said = [re.match(r'\w+ \d+ "(.*?)(?:\\n.*)?"$', l).group(1) if l.startswith(("Refused", "Proved", "Unproved")) else l for l in lines]
         asked_of = [(label, text, answer) for (label, text), answer in zip(programs(args), said)]
     else:
@@ -160,7 +189,7 @@ def main():
     with ThreadPoolExecutor(args.j) as pool:
         for (label, text, _), (_, verdict, errors, said) in zip(*(lambda all_: (all_, pool.map(lambda a: judged(args, *a), all_)))(list(asked_of))):
             counts["whole" if label.endswith("/0") else "changed", verdict] += 1
-            if verdict.startswith("!"):
+            if verdict.startswith("!") or args.v and verdict.startswith("by"):
                 print(f"{label}: {verdict}")
                 for message in errors[:2] + [said]:
                     print(f"    {message} | {shown(text, message)[:150]}")

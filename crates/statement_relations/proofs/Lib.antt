@@ -1,4 +1,4 @@
-mod Parted
-mod Asking
-mod Choosing
-mod Doing
+pub mod Parted
+pub mod Asking
+pub mod Choosing
+pub mod Doing

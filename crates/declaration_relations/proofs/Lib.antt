@@ -1,0 +1,12 @@
+pub mod Keeping
+pub mod Ranging
+pub mod Indicating
+pub mod Defining
+pub mod Settling
+pub mod Valuing
+pub mod Profiling
+pub mod Stating
+pub mod Accepted
+pub mod Entering
+pub mod Declaring
+pub mod Building

@@ -1,0 +1,12 @@
+pub mod Found
+pub mod Seen
+pub mod Naming
+pub mod Attributing
+pub mod Reading
+pub mod Growing
+pub mod Indicating
+pub mod Noticing
+pub mod Numbering
+pub mod Lasting
+pub mod Entering
+pub mod Declaring

@@ -1,0 +1,4 @@
+pub mod Calls
+pub mod Objects
+pub mod Others
+pub mod OwnParts

@@ -1,0 +1,4 @@
+pub mod Seen
+pub mod PassedAs
+pub mod Modes
+pub mod OwnParts

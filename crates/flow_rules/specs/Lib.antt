@@ -1,0 +1,10 @@
+pub mod Headed
+pub mod Base
+pub mod Sets
+pub mod Aliases
+pub mod Functions
+pub mod Reads
+pub mod Paths
+pub mod Unset
+pub mod Fit
+pub mod Cases

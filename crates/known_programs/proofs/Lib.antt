@@ -1,0 +1,4 @@
+pub mod Ordering
+pub mod Indexing
+pub mod Walked
+pub mod Sampled

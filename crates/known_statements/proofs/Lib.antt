@@ -1,0 +1,4 @@
+pub mod Asked
+pub mod Demanded
+pub mod Chosen
+pub mod Acted

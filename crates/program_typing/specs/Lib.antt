@@ -1,0 +1,9 @@
+pub mod Subtypes
+pub mod Checks
+pub mod Standard
+pub mod Expressions
+pub mod Statements
+pub mod Ends
+pub mod Numbers
+pub mod WellTyped
+pub mod Cases

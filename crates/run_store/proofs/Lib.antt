@@ -1,0 +1,5 @@
+mod EntryLists
+pub mod FrameLaws
+mod OwnBounds
+pub mod SlotViews
+mod Wholes

@@ -1,0 +1,5 @@
+pub mod Entries
+pub mod RunFrames
+pub mod RunSlots
+pub mod RunStores
+pub mod Spots

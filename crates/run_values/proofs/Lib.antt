@@ -1,0 +1,4 @@
+mod Based
+mod GivenParts
+pub mod Positions
+pub mod Views

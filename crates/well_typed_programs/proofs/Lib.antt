@@ -1,0 +1,14 @@
+pub mod Worlds
+pub mod Operators
+pub mod Results
+pub mod Joined
+pub mod Unary
+pub mod Fitting
+pub mod Converting
+pub mod Ranging
+pub mod Mapping
+pub mod Predefined
+pub mod Parts
+pub mod Objects
+pub mod Passing
+pub mod Bounding
